@@ -1,0 +1,5 @@
+pub mod Sums
+pub mod Residues
+pub mod Ring
+pub mod Digits
+pub mod Laws

@@ -1,0 +1,12 @@
+/// Called by each worker at the start of its piece. No contract rests on what it does.
+pub trait Gate: Sync {
+    fn pass(&self, piece: u32);
+}
+
+/// Lets every worker pass.
+#[derive(Clone, Copy, Debug)]
+pub struct OpenGate;
+
+impl Gate for OpenGate {
+    fn pass(&self, _piece: u32) {}
+}
