@@ -21,8 +21,7 @@ pub fn unpack(bytes: &[u8], width: u32, out: &mut [u64])
     requires some { 0 < width }
     requires narrow { width ≤ MAX_WIDTH }
     ensures { out.new ≡ repacked 8 width (length out.old) bytes.now }
-{
-}
+{}
 
 /// Packs values of `width` bits each into `out.len()` bytes; zeros follow the last value.
 pub fn pack(values: &[u64], width: u32, out: &mut [u8])
@@ -30,5 +29,4 @@ pub fn pack(values: &[u64], width: u32, out: &mut [u8])
     requires narrow { width ≤ MAX_WIDTH }
     requires fit { All (λ x. x < 2 ^ width) values.now }
     ensures { out.new ≡ repacked width 8 (length out.old) values.now }
-{
-}
+{}

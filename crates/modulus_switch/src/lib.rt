@@ -1,0 +1,11 @@
+//! The modulus switch: a reply's numbers at their small moduli, the client's state, and the opening of the one by
+//! the other.
+#![tactic(auto)]
+
+mod open;
+mod reply;
+mod state;
+
+pub use open::open_matrix;
+pub use reply::Reply;
+pub use state::ClientState;
