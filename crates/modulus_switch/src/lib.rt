@@ -5,6 +5,8 @@
 mod open;
 mod reply;
 mod state;
+#[cfg(test)]
+mod tests;
 
 pub use open::open_matrix;
 pub use reply::Reply;

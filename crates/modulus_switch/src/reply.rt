@@ -1,4 +1,4 @@
-ghost use Rattle.std.specs.Prelude.{◌≡◌, ◌+◌, ◌<◌, ◌≤◌, length, replicate, slice_set, slice_index_or, [], All, IfOk};
+ghost use Rattle.std.specs.Prelude.{◌≡◌, ◌+◌, ◌*◌, ◌^◌, ◌<◌, ◌≤◌, length, replicate, slice_set, slice_index_or, [], All, IfOk};
 ghost use Rattle.spiral_model.specs.Sets.{IsSet, max_records, capacity, entries};
 ghost use Rattle.spiral_model.specs.Switched.{poly_place, modulus_at, IsSwitched};
 
@@ -42,6 +42,43 @@ impl Model for Reply {
     ghost invariant = { λ r. IsReply (record { set = r.set; count = r.count; record_length = r.record_length; polys = r.polys.items }) };
 }
 
+/// So many zeros.
+pub(crate) fn zeros(alloc: Global, count: usize) -> Result<Vec<u64>, NoMemory>
+    ensures { IfOk result (λ v. v.items ≡ replicate count 0) }
+{
+    Ok(vec![in alloc; 0u64; count]?)
+}
+
+/// So many polynomials of zeros.
+fn zero_polys(alloc: Global, count: usize, degree: usize) -> Result<Vec<Numbers>, NoMemory>
+    ensures { IfOk result (λ v. v.items ≡ replicate count (replicate degree 0)) }
+{
+    let mut polys = Vec::new(alloc);
+    for place in 0..count {
+        polys.push(Numbers {
+            items: zeros(alloc, degree)?,
+        })?;
+    }
+    Ok(polys)
+}
+
+/// Where the polynomial of a row (from 0) and a column (from 1) stands.
+fn place_of(set: &ParamSet, row: u32, column: u32) -> usize
+    requires known { IsSet set.now }
+    requires row { row ≤ set.now.n }
+    requires first_column { 1 ≤ column }
+    requires column { column ≤ set.now.n }
+    ensures value { result ≡ poly_place set.now row column }
+    ensures within { result < entries set.now + set.now.n }
+{
+    let before = if row == 0 {
+        set.n * set.n
+    } else {
+        (row - 1) * set.n
+    };
+    (before + (column - 1)) as usize
+}
+
 impl Reply {
     /// A reply whose numbers are all 0.
     pub fn zero(alloc: Global, set: &ParamSet, count: u32, length: u32) -> Result<Reply, NoMemory>
@@ -51,7 +88,13 @@ impl Reply {
         requires length { length ≤ capacity set.now }
         ensures { IfOk result (λ r. r ≡ record { set = set.now; count = count; record_length = length; polys = replicate (entries set.now + set.now.n) (replicate set.now.degree 0) }) }
     {
-        Err(NoMemory)
+        let polys = zero_polys(alloc, (set.n * set.n + set.n) as usize, set.degree as usize)?;
+        Ok(Reply {
+            set: *set,
+            count,
+            record_length: length,
+            polys,
+        })
     }
 
     /// The set of its database.
@@ -77,5 +120,33 @@ impl Reply {
         ensures most { result ≤ capacity self.now.set }
     {
         self.record_length
+    }
+
+    /// The numbers of the polynomial in a row (from 0) and a column (from 1): N of them, below q1 in rows 1 to n
+    /// and below q2 in row 0.
+    pub fn numbers(&self, row: u32, column: u32) -> &[u64]
+        requires row { row ≤ self.now.set.n }
+        requires first_column { 1 ≤ column }
+        requires column { column ≤ self.now.set.n }
+        ensures value { result.now ≡ slice_index_or self.now.polys (poly_place self.now.set row column) [] }
+        ensures switched { IsSwitched self.now.set (poly_place self.now.set row column) result.now }
+    {
+        let place = place_of(&self.set, row, column);
+        let poly = &self.polys[place];
+        &poly.items
+    }
+
+    /// Puts the numbers of the polynomial in a row (from 0) and a column (from 1). It takes no memory.
+    pub fn put_numbers(&mut self, row: u32, column: u32, numbers: &[u64])
+        requires row { row ≤ self.old.set.n }
+        requires first_column { 1 ≤ column }
+        requires column { column ≤ self.old.set.n }
+        requires degree { length numbers.now ≡ self.old.set.degree }
+        requires below { All (λ x. x < modulus_at self.old.set (poly_place self.old.set row column)) numbers.now }
+        ensures { self.new ≡ record self.old { polys = slice_set self.old.polys (poly_place self.old.set row column) numbers.now } }
+    {
+        let place = place_of(&self.set, row, column);
+        let poly = &mut self.polys[place];
+        poly.items.copy_from_slice(numbers);
     }
 }

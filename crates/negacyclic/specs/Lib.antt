@@ -3,3 +3,4 @@ pub mod Residues
 pub mod Ring
 pub mod Digits
 pub mod Laws
+pub mod RingLaws

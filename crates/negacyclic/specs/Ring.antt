@@ -35,11 +35,18 @@ reduced q N f = map (λ k. residue q (f k)) (range_with_len 0 N)
 unfoldable pub ring_zero : ℕ → ℕ → List ℕ
 ring_zero q N = reduced q N (λ k. pos 0)
 
+unfoldable pub ring_one : ℕ → ℕ → List ℕ
+ring_one q N = reduced q N (λ k. if k == 0 then pos 1 else pos 0)
+
 unfoldable pub ring_add : ℕ → ℕ → List ℕ → List ℕ → List ℕ
 ring_add q N a b = reduced q N (λ k. at a k +ℤ at b k)
 
 unfoldable pub ring_sub : ℕ → ℕ → List ℕ → List ℕ → List ℕ
 ring_sub q N a b = reduced q N (λ k. at a k -ℤ at b k)
+
+-- The sum of the first count polynomials of a sequence.
+unfoldable pub ring_total : ℕ → ℕ → ℕ → (ℕ → List ℕ) → List ℕ
+ring_total q N count a = reduced q N (λ k. total count (λ i. at (a i) k))
 
 unfoldable pub ring_mul : ℕ → ℕ → List ℕ → List ℕ → List ℕ
 ring_mul q N a b = reduced q N (product_at N (at a) (at b))

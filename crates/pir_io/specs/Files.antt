@@ -1,5 +1,5 @@
 -- A set of named files, and what a call does to it. The clauses on contents hold of an object that tells them.
-use Rattle.std.specs.Prelude.{ℕ, Bool, true, false, IsTrue, List, [], ◌++◌, ◌≡◌, ◌≢◌, ◌+◌, ◌<◌, ◌≤◌, ◌⊎◌, length, take, drop, unwrap_or, Option, Some, None, Result, Ok, Err, IfOk, OnOk}
+use Rattle.std.specs.Prelude.{ℕ, Bool, true, false, IsTrue, List, [], ◌++◌, ◌≡◌, ◌≢◌, ◌+◌, ◌<◌, ◌≤◌, ◌⊎◌, length, take, drop, unwrap_or, Option, Some, Result, Ok, Err, IfOk, OnOk}
 use Rattle.pir_io.specs.declared.fault.IoFault.{IoFault}
 use Rattle.pir_io.specs.declared.fault.IoFault.TheVariants.{Failed, NoMemory}
 use Rattle.pir_io.specs.Faults.{HasCause}

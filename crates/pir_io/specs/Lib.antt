@@ -3,3 +3,11 @@ pub mod Files
 pub mod Sink
 pub mod Link
 pub mod Net
+pub mod Plan
+pub mod PlanOf
+pub mod MemSink
+pub mod Contents
+pub mod MemFiles
+pub mod Host
+pub mod NetPlan
+pub mod SoundNet

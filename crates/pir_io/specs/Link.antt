@@ -1,5 +1,5 @@
 -- A link to a peer: a stream of bytes each way.
-use Rattle.std.specs.Prelude.{ℕ, Bool, true, false, IsTrue, List, ◌++◌, ◌≡◌, ◌<◌, ◌≤◌, ◌||◌, ◌&&◌, ◌==◌, nat_lt, length, take, Option, Result, Err, IfOk, OnOk, OnErr}
+use Rattle.std.specs.Prelude.{ℕ, Bool, IsTrue, List, ◌++◌, ◌≡◌, ◌≤◌, ◌||◌, ◌&&◌, ◌==◌, nat_lt, length, take, Option, Result, Err, IfOk, OnOk, OnErr}
 use Rattle.pir_io.specs.declared.fault.IoFault.{IoFault}
 use Rattle.pir_io.specs.declared.fault.IoFault.TheVariants.{Failed, NoMemory}
 use Rattle.pir_io.specs.Faults.{HasCause}

@@ -3,7 +3,7 @@ use Rattle.std.specs.Prelude.{ℕ, Bool, true, false, IsTrue, List, [], ◌∷�
 use Rattle.pir_io.specs.declared.fault.IoFault.{IoFault}
 use Rattle.pir_io.specs.declared.fault.IoFault.TheVariants.{Failed, NoMemory}
 use Rattle.pir_io.specs.Faults.{HasCause}
-use Rattle.pir_io.specs.Link.{LinkSeen, NetLog, Session, Start, connecting, accepting, Log, no_log, net_log}
+use Rattle.pir_io.specs.Link.{LinkSeen, NetLog, Session, Start, connecting, no_log, net_log}
 
 -- the log of a net
 abbrev pub log_of : LinkSeen → NetLog

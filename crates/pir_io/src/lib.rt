@@ -2,14 +2,34 @@
 //! written meaning and a count of faults, beside objects in memory and the real ones.
 #![tactic(auto)]
 
+mod contents;
+mod count;
 mod fault;
 mod files;
 mod gate;
+mod host_files;
 mod link;
+mod mem_files;
+mod mem_sink;
+mod out_sink;
+mod plan;
 mod sink;
+mod sound_files;
+mod sound_net;
+mod sound_sink;
 
 pub use fault::IoFault;
 pub use files::Files;
 pub use gate::{Gate, OpenGate};
+pub use host_files::HostFiles;
 pub use link::{Link, Net};
+pub use mem_files::MemFiles;
+pub use mem_sink::MemSink;
+pub use out_sink::OutSink;
 pub use sink::Sink;
+pub use sound_files::SoundFiles;
+pub use sound_net::SoundNet;
+pub use sound_sink::SoundSink;
+
+#[cfg(test)]
+mod tests;

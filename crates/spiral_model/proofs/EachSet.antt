@@ -1,5 +1,5 @@
 -- What holds of each row of the table holds of every set; and the table's numbers that are sums over ciphertexts.
-use Rattle.std.proofs.Common.{◌≡◌, ℕ, List, [], ◌∷◌, refl, slice_index_or}
+use Rattle.std.proofs.Common.{◌≡◌, refl, slice_index_or}
 use Rattle.std.specs.List.{AllByRecursion}
 use Rattle.std.proofs.lemmas.List.Elements.{All-contains, All-from_recursion}
 use Rattle.spiral_model.specs.declared.param_set.ParamSet.{ParamSet}

@@ -1,5 +1,5 @@
 -- How many words a query takes and how many bytes the bodies of frames have: sums over the ciphertexts.
-use Rattle.std.specs.Prelude.{ℕ, Bool, List, [], ◌∷◌, ◌++◌, ◌+◌, ◌*◌, ◌/◌, ◌^◌, if◌then◌else◌, sum_by}
+use Rattle.std.specs.Prelude.{ℕ, List, [], ◌∷◌, ◌++◌, ◌+◌, ◌*◌, ◌/◌, ◌^◌, if◌then◌else◌, sum_by}
 use Rattle.spiral_model.specs.declared.param_set.ParamSet.{ParamSet}
 use Rattle.spiral_model.specs.Sets.{digit_count, rho, rows, has_keys, entries, q1_bits}
 

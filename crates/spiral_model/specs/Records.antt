@@ -1,5 +1,5 @@
 -- A record's bytes as values below p, and the values as the entries of a matrix of polynomials.
-use Rattle.std.specs.Prelude.{ℕ, ℤ, List, ◌+◌, ◌*◌, ◌/◌, take, drop, slice_index, nat_lt, if◌then◌else◌, pos, ◌-ℤ◌}
+use Rattle.std.specs.Prelude.{ℕ, ℤ, List, ◌*◌, ◌/◌, take, drop, slice_index, nat_lt, if◌then◌else◌, pos, ◌-ℤ◌}
 use Rattle.negacyclic.specs.Digits.{repacked}
 use Rattle.spiral_model.specs.declared.param_set.ParamSet.{ParamSet}
 use Rattle.spiral_model.specs.Sets.{p, values_count}

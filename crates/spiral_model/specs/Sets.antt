@@ -1,5 +1,5 @@
 -- The parameter sets and the numbers derived from their dimensions.
-use Rattle.std.specs.Prelude.{ℕ, Bool, true, false, List, [], ◌∷◌, ◌≡◌, ◌+◌, ◌-◌, ◌*◌, ◌/◌, ◌^◌, ◌||◌, not, nat_le, nat_eq, if◌then◌else◌, slice_get, slice_index_or, Option, Some, None, codes}
+use Rattle.std.specs.Prelude.{ℕ, Bool, List, [], ◌∷◌, ◌≡◌, ◌+◌, ◌-◌, ◌*◌, ◌/◌, ◌^◌, ◌||◌, not, nat_le, nat_eq, if◌then◌else◌, slice_index_or, Option, Some, None, codes}
 use Rattle.std.proofs.Common.{zero, suc}
 use Rattle.std.specs.List.{Contains}
 use lib.Pointwise.{pointwise}

@@ -1,5 +1,5 @@
 -- The reply after the modulus switch, the client's state, and how the one opens the other.
-use Rattle.std.specs.Prelude.{ℕ, ℤ, List, [], ◌∷◌, ◌≡◌, ◌+◌, ◌-◌, ◌*◌, ◌/◌, ◌%◌, ◌<◌, ◌≤◌, length, map, nat_lt, ◌==◌, if◌then◌else◌, slice_index, slice_index_or, pos, ◌-ℤ◌, ◌*ℤ◌, unsigned_abs, All, EachIndex}
+use Rattle.std.specs.Prelude.{ℕ, ℤ, List, [], ◌≡◌, ◌+◌, ◌-◌, ◌*◌, ◌/◌, ◌%◌, ◌<◌, ◌≤◌, length, map, nat_lt, ◌==◌, if◌then◌else◌, slice_index_or, pos, ◌-ℤ◌, ◌*ℤ◌, unsigned_abs, All, EachIndex}
 use Rattle.std.specs.List.{range_with_len, flat_map}
 use Rattle.negacyclic.specs.Residues.{residue, nearest}
 use Rattle.negacyclic.specs.Ring.{product_at, at}

@@ -1,0 +1,6 @@
+use Rattle.std.proofs.Common.{◌≡◌, ℕ, ◌<◌, ◌^◌, get_or}
+use Rattle.negacyclic.specs.Digits.{number_of, digit}
+use Rattle.bit_packing.proofs.unpack.Given as goal
+
+abbrev pub invariant-loop-k : goal.invariant-loop-k
+invariant-loop-k l = (i : ℕ) → i < l.k → get_or l.out i 0 ≡ digit (2 ^ l.width) i (number_of 256 l.bytes)

@@ -1,0 +1,15 @@
+pub mod Automorphism
+pub mod Bounds
+pub mod Congruence
+pub mod Digits
+pub mod Gather
+pub mod Integers
+pub mod Linear
+pub mod Norm
+pub mod Product
+pub mod Residues
+pub mod Ring
+pub mod Shift
+pub mod Stands
+pub mod Sums
+pub mod Turn

@@ -1,0 +1,38 @@
+-- What is seen of a net in memory.
+use Rattle.std.specs.Prelude.{ℕ, List, [], true, map, length, take, is_some, unwrap_or, slice_get, string_bytes}
+use Rattle.std.specs.Option.{option_map}
+use Rattle.pir_io.specs.declared.sound_net.Opening.{Opening}
+use Rattle.pir_io.specs.declared.sound_net.Opening.TheVariants.{Connect, Accept}
+use Rattle.pir_io.specs.declared.sound_net.PastSession.{PastSession}
+use Rattle.pir_io.specs.declared.sound_net.SoundNet.{SoundNet}
+use Rattle.pir_io.specs.Link.{LinkSeen, Session, Start, connecting, accepting, NetLog, net_log}
+use Rattle.pir_io.specs.NetPlan.{NetPlan}
+
+abbrev pub start_by : Opening → Start
+start_by Connect = connecting
+start_by Accept = accepting
+
+abbrev pub session_of : PastSession → Session
+session_of past = record { took = past.took.items; wrote = past.wrote.items; ended = past.ended; start = start_by past.opening; faults = 0 }
+
+abbrev pub sound_net_plan : SoundNet → NetPlan
+sound_net_plan net = record { inputs = map (λ input. input.items) net.inputs.items; piece = net.piece }
+
+-- what the peer sends in the session at hand
+abbrev pub input_of : SoundNet → List ℕ
+input_of net = unwrap_or (option_map (λ input. input.items) (slice_get net.inputs.items (length net.past.items))) []
+
+abbrev pub sound_net_log : SoundNet → NetLog
+sound_net_log net = record { past = map session_of net.past.items; addr = option_map string_bytes net.addr; start = option_map start_by net.opening; faults_at_start = 0 }
+
+abbrev pub sound_net_seen : SoundNet → LinkSeen
+sound_net_seen net = record {
+  tells = true;
+  is_open = is_some net.opening;
+  took = take net.read (input_of net);
+  wrote = net.wrote.items;
+  ended = net.ended;
+  closed = net.closed;
+  faults = 0;
+  log = net_log (sound_net_log net);
+}

@@ -1,0 +1,162 @@
+-- How the command that opens a reply ends, exit by exit.
+use Rattle.std.proofs.Common.{ℕ, List, IsTrue, ◌≡◌, ◌≢◌, ◌≤◌, ◌↔◌, inl, inr, Err, ap, sym, ◌∙◌, subst, refl, arith}
+use Rattle.pir_io.specs.Files.{FilesSeen, Keeps, KeepsOthers, content_of}
+use Rattle.pir_io.specs.Sink.{SinkSeen}
+use Rattle.spiral_model.specs.Switched.{QueryState, SwitchedReply, open_bytes}
+use Rattle.spiral_model.specs.Frames.{Message, IsOne, reply_message}
+use Rattle.spiral_tool.specs.declared.status.Status.{Status}
+use Rattle.spiral_tool.specs.declared.status.Status.TheVariants.{Done, NoMemory, Usage, FileFault, BadFrame, Absent, SinkFault}
+use Rattle.spiral_tool.specs.declared.input.InputError.{InputError}
+use Rattle.spiral_tool.specs.declared.input.InputError.TheVariants as input
+use Rattle.spiral_tool.specs.Texts.{absent_line, file_fault_line}
+use Rattle.spiral_tool.specs.Puts.{GotNothing, Refused}
+use Rattle.spiral_tool.specs.Inputs.{StateIn, ReplyIn, NoStateIn, NoReplyIn}
+use Rattle.spiral_tool.specs.Reading.{FailedReading, FailedWriting, OnlyRead, ReadsMessage, HoldsPrefix}
+use Rattle.spiral_tool.specs.Record.{InputRefused, RecordEnds, WritesRecord}
+use Rattle.spiral_tool.specs.Open.{Opens, OpenEnds, BothIn, IsPresent, HasBadFrame, IsAbsent, FailedInOrder, HoldsSomeOfRecord}
+use Rattle.spiral_model.proofs.FrameLaws.{state_index_is, reply_count_is}
+use Rattle.spiral_tool.proofs.Kept.{same_content, still_told, then_only, rose_before}
+
+not_bad : (old : FilesSeen) (S R : List ℕ) (s : QueryState) (r : SwitchedReply) → BothIn old S R s r → HasBadFrame old S R → ⊥
+not_bad old S R s r both (inl none) = none s both.state_in
+not_bad old S R s r both (inr bad) = bad.2 r both.reply_in
+
+not_absent : (old : FilesSeen) (S R : List ℕ) (s : QueryState) (r : SwitchedReply) → BothIn old S R s r → IsPresent s r → IsAbsent old S R → ⊥
+not_absent old S R s r both present absent =
+    let i : s.index ≡ absent.0.index = state_index_is (content_of old S) s absent.0 both.state_in absent.2.state_in in
+    let c : r.count ≡ absent.1.count = reply_count_is (content_of old R) r absent.1 both.reply_in absent.2.reply_in in
+    let le : absent.1.count ≤ absent.0.index = absent.3 in
+    omega arith
+
+module _ (old new : FilesSeen) (so sn : SinkSeen) (S R O : List ℕ) where
+  bad_frame_is : (status : Status) → OpenEnds old new so sn S R O status → IsTrue old.tells → status ≢ NoMemory → status ≢ FileFault → (status ≡ BadFrame) ↔ HasBadFrame old S R
+  bad_frame_is Done e told m f = let d = e told in (λ h. absurd (cc h), λ bad. absurd (not_bad old S R d.0 d.1 d.2 bad))
+  bad_frame_is NoMemory e told m f = absurd (m refl)
+  bad_frame_is Usage e told m f = absurd e
+  bad_frame_is FileFault e told m f = absurd (f refl)
+  bad_frame_is BadFrame e told m f = (λ h. (e.0 told).0, λ bad. refl)
+  bad_frame_is Absent e told m f = let d = e told in (λ h. absurd (cc h), λ bad. absurd (not_bad old S R d.0 d.1 d.2 bad))
+  bad_frame_is SinkFault e told m f = let d = e.1 told in (λ h. absurd (cc h), λ bad. absurd (not_bad old S R d.0 d.1 d.2 bad))
+
+  absent_is : (status : Status) → OpenEnds old new so sn S R O status → IsTrue old.tells → status ≢ NoMemory → status ≢ FileFault → (status ≡ Absent) ↔ IsAbsent old S R
+  absent_is Done e told m f = let d = e told in (λ h. absurd (cc h), λ absent. absurd (not_absent old S R d.0 d.1 d.2 d.3.0 absent))
+  absent_is NoMemory e told m f = absurd (m refl)
+  absent_is Usage e told m f = absurd e
+  absent_is FileFault e told m f = absurd (f refl)
+  absent_is BadFrame e told m f = (λ h. absurd (cc h), λ absent. absurd (not_bad old S R absent.0 absent.1 absent.2 (e.0 told).0))
+  absent_is Absent e told m f = let d = e told in (λ h. (d.0, d.1, d.2, d.3.0), λ absent. refl)
+  absent_is SinkFault e told m f = let d = e.1 told in (λ h. absurd (cc h), λ absent. absurd (not_absent old S R d.0 d.1 d.2 d.3.0 absent))
+
+  -- the refusals are exact
+  pub opens : (status : Status) → OpenEnds old new so sn S R O status → (IsTrue old.tells → KeepsOthers old new O) → Opens old new so sn S R O status
+  opens status e others = record {
+    ends = e;
+    others = others;
+    bad_frame = λ told m f. bad_frame_is status e told m f;
+    absent = λ told m f. absent_is status e told m f;
+  }
+
+-- the status is this one
+on_status : (P : Status → Type 0) (x status : Status) → status ≡ x → P x → P status
+on_status P x status e h = subst P (sym e) h
+
+-- the content of a name before, in place of that now
+of_before : (old new : FilesSeen) (kind : ℕ) (name : List ℕ) (m : Message) → Keeps old new → IsOne kind (content_of new name) m → IsOne kind (content_of old name) m
+of_before old new kind name m keeps one = subst (λ x. IsOne kind x m) (same_content old new keeps name) one
+
+of_now : (old new : FilesSeen) (kind : ℕ) (name : List ℕ) (m : Message) → Keeps old new → IsOne kind (content_of old name) m → IsOne kind (content_of new name) m
+of_now old new kind name m keeps one = subst (λ x. IsOne kind x m) (sym (same_content old new keeps name)) one
+
+module _ (old new : FilesSeen) (so sn : SinkSeen) (S R O : List ℕ) (only : OnlyRead old new) where
+  -- nothing was written, and memory was wanting
+  unwritten : (status : Status) → status ≡ NoMemory → GotNothing so sn → OpenEnds old new so sn S R O status
+  unwritten status e nothing = on_status (OpenEnds old new so sn S R O) NoMemory status e (λ told. inl (only.keeps told O), nothing)
+
+  -- a file couldn't be read
+  unread : (status : Status) → FailedInOrder old new S R O → Refused so sn FileFault file_fault_line status → OpenEnds old new so sn S R O status
+  unread status failed (inl refused) = on_status (OpenEnds old new so sn S R O) FileFault status refused.0 (failed, λ told. inl (only.keeps told O), refused.1)
+  unread status failed (inr short) = unwritten status short.0 short.1
+
+  -- an input is no frame
+  no_frame : (status : Status) → status ≡ BadFrame → (IsTrue old.tells → HasBadFrame old S R) → GotNothing so sn → OpenEnds old new so sn S R O status
+  no_frame status e bad nothing = on_status (OpenEnds old new so sn S R O) BadFrame status e (λ told. (bad told, only.keeps told), nothing)
+
+  others_kept : IsTrue old.tells → KeepsOthers old new O
+  others_kept told other different = only.keeps told other
+
+-- STATE gave no message
+module _ (old new : FilesSeen) (so sn : SinkSeen) (S R O : List ℕ) where
+  state_ends : {T : Type 0} (Found : T → Type 0) (error : InputError) (status : Status) → ReadsMessage Found (NoStateIn old S) old new S (Err error) → InputRefused so sn error status → OpenEnds old new so sn S R O status
+  state_ends Found input.File status reads refused = unread old new so sn S R O reads.only status (inl (reads.file refl)) refused
+  state_ends Found input.Frame status reads refused = no_frame old new so sn S R O reads.only status refused.0 (λ told. inl (reads.frame told refl)) refused.1
+  state_ends Found input.NoMemory status reads refused = unwritten old new so sn S R O reads.only status refused.0 refused.1
+
+  pub without_state : {T : Type 0} (Found : T → Type 0) (error : InputError) (status : Status) → ReadsMessage Found (NoStateIn old S) old new S (Err error) → InputRefused so sn error status → Opens old new so sn S R O status
+  without_state Found error status reads refused = opens old new so sn S R O status (state_ends Found error status reads refused) (others_kept old new so sn S R O reads.only)
+
+-- STATE was read, and REPLY gave no message
+module _ (old mid new : FilesSeen) (so sn : SinkSeen) (S R O : List ℕ) (s : QueryState) (first : OnlyRead old mid) (state_in : IsTrue old.tells → StateIn old S s) where
+  failed_then : FailedReading mid new R → FailedReading old new R
+  failed_then failed = record {
+    rose = rose_before old.faults mid.faults new.faults first.later failed.rose;
+    last = λ told. failed.last (still_told old mid first.tells told);
+  }
+
+  no_reply_before : IsTrue old.tells → NoReplyIn mid R → NoReplyIn old R
+  no_reply_before told none r one = none r (of_now old mid 3 R (reply_message r) (first.keeps told) one)
+
+  reply_ends : {T : Type 0} (Found : T → Type 0) (error : InputError) (status : Status) → ReadsMessage Found (NoReplyIn mid R) mid new R (Err error) → InputRefused so sn error status → OpenEnds old new so sn S R O status
+  reply_ends Found input.File status reads refused = unread old new so sn S R O (then_only old mid new first reads.only) status (inr (inl (λ told. (s, state_in told), failed_then (reads.file refl)))) refused
+  reply_ends Found input.Frame status reads refused =
+      no_frame old new so sn S R O (then_only old mid new first reads.only) status refused.0 (λ told. inr (s, state_in told, no_reply_before told (reads.frame (still_told old mid first.tells told) refl))) refused.1
+  reply_ends Found input.NoMemory status reads refused = unwritten old new so sn S R O (then_only old mid new first reads.only) status refused.0 refused.1
+
+  pub without_reply : {T : Type 0} (Found : T → Type 0) (error : InputError) (status : Status) → ReadsMessage Found (NoReplyIn mid R) mid new R (Err error) → InputRefused so sn error status → Opens old new so sn S R O status
+  without_reply Found error status reads refused =
+      opens old new so sn S R O status (reply_ends Found error status reads refused) (others_kept old new so sn S R O (then_only old mid new first reads.only))
+
+-- both were read, with nothing written until now
+module _ (old new : FilesSeen) (so sn : SinkSeen) (S R O : List ℕ) (s : QueryState) (r : SwitchedReply) (only : OnlyRead old new) (both : IsTrue old.tells → BothIn old S R s r) where
+  absent_ends : (status : Status) → r.count ≤ s.index → Refused so sn Absent (absent_line s.index r.count) status → OpenEnds old new so sn S R O status
+  absent_ends status absent (inl refused) = on_status (OpenEnds old new so sn S R O) Absent status refused.0 (λ told. (s, r, both told, (absent, only.keeps told, refused.1)))
+  absent_ends status absent (inr short) = unwritten old new so sn S R O only status short.0 short.1
+
+  pub without_record : (status : Status) (index count : ℕ) → index ≡ s.index → count ≡ r.count → count ≤ index → Refused so sn Absent (absent_line index count) status → Opens old new so sn S R O status
+  without_record status index count index_is count_is absent refused =
+      let line_is : absent_line index count ≡ absent_line s.index r.count = ap (λ i. absent_line i count) index_is ∙ ap (λ k. absent_line s.index k) count_is in
+      let le : r.count ≤ s.index = omega arith in
+      opens old new so sn S R O status (absent_ends status le (subst (λ text. Refused so sn Absent text status) line_is refused)) (others_kept old new so sn S R O only)
+
+-- both were read, and the record was to be written
+module _ (old mid new : FilesSeen) (so sn : SinkSeen) (S R O : List ℕ) (s : QueryState) (r : SwitchedReply) (only : OnlyRead old mid) (both : IsTrue old.tells → BothIn old S R s r) (present : IsPresent s r) where
+  written : IsTrue old.tells → IsTrue mid.tells
+  written told = still_told old mid only.tells told
+
+  some_held : IsTrue old.tells → HoldsPrefix mid new O (open_bytes s r) → HoldsSomeOfRecord old new S R O
+  some_held told (inl same) = inl (same ∙ only.keeps told O)
+  some_held told (inr part) = inr (s, r, both told, (present, part))
+
+  record_ends : (status : Status) → RecordEnds mid new so sn (open_bytes s r) r.record_length O status → OpenEnds old new so sn S R O status
+  record_ends Done e = λ told. (s, r, both told, (present, e.0 (written told), e.1))
+  record_ends SinkFault e = (e.1.rose, λ told. (s, r, both told, (present, e.0 (written told), e.1)))
+  record_ends NoMemory e = (λ told. some_held told (e.0 (written told)), e.1)
+  record_ends FileFault e = (inr (inr (λ told. (s, r, both told, present), failed_writing e.0)), λ told. some_held told (e.1 (written told)), e.2)
+    where
+      failed_writing : FailedWriting mid new O → FailedWriting old new O
+      failed_writing failed = record {
+        rose = rose_before old.faults mid.faults new.faults only.later failed.rose;
+        last = λ told. failed.last (written told);
+      }
+  record_ends Usage e = absurd e
+  record_ends BadFrame e = absurd e
+  record_ends Absent e = absurd e
+
+  pub with_record : (status : Status) → WritesRecord mid new so sn s r O status → Opens old new so sn S R O status
+  with_record status w = opens old new so sn S R O status (record_ends status w.ends) (λ told other different. w.others (written told) other different ∙ only.keeps told other)
+
+-- the reply found in the files as they were after the state was read stood there before
+pub both_in : (old mid : FilesSeen) (S R : List ℕ) (s : QueryState) (r : SwitchedReply) → OnlyRead old mid → (IsTrue old.tells → StateIn old S s) → (IsTrue mid.tells → ReplyIn mid R r) → IsTrue old.tells → BothIn old S R s r
+both_in old mid S R s r only state_in reply_in told = record {
+  state_in = state_in told;
+  reply_in = of_before old mid 3 R (reply_message r) (only.keeps told) (reply_in (still_told old mid only.tells told));
+}

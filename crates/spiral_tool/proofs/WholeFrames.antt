@@ -1,0 +1,54 @@
+-- Whole frames, by their header and their body.
+use Rattle.std.proofs.Common.{ℕ, List, ◌++◌, drop, Option, Some, None, Result, Ok, Err, IfOk, IfSome, IfNone, refl, sym, ◌∙◌, ap, subst}
+use Rattle.spiral_model.specs.declared.param_set.ParamSet.{ParamSet}
+use Rattle.spiral_model.specs.Sets.{IsBuilt}
+use Rattle.spiral_model.specs.Counts.{state_len, reply_len}
+use Rattle.spiral_model.specs.Switched.{QueryState, SwitchedReply}
+use Rattle.spiral_model.specs.Frames.{header, state_body, reply_body, IsOne, state_message, reply_message}
+use Rattle.spiral_model.proofs.FrameLaws.{same_front}
+use Rattle.spiral_tool.specs.declared.header.Kind.TheVariants.{Reply, State}
+use Rattle.spiral_tool.specs.Headers.{BeginsWith}
+use Rattle.spiral_tool.specs.Bodies.{IsStateBody, IsReplyBody}
+
+-- what a call says of what it found, said in other words
+pub found_then : {X E : Type 0} {P Q : X → Type 0} (r : Result (Option X) E) → IfOk r (λ found. IfSome found P) → ((x : X) → P x → Q x) → IfOk r (λ found. IfSome found Q)
+found_then (Ok (Some x)) h f = f x h
+found_then (Ok None) h f = tt
+found_then (Err e) h f = tt
+
+pub none_then : {X E N M : Type 0} (r : Result (Option X) E) → IfOk r (λ found. IfNone found N) → (N → M) → IfOk r (λ found. IfNone found M)
+none_then (Ok (Some x)) h f = tt
+none_then (Ok None) h f = f h
+none_then (Err e) h f = tt
+
+module _ (bytes : List ℕ) (set : ParamSet) (start : ℕ) (state : QueryState) (begins : BeginsWith State bytes set start) where
+  pub state_of_body : IsStateBody set (drop start bytes) state → IsOne 5 bytes (state_message state)
+  state_of_body is = record {
+    kind_is = refl;
+    spells = record {
+      fits = (subst IsBuilt (sym is.set_is) begins.built, is.kept);
+      spelled = begins.front ∙ ap (λ (s : ParamSet). header 5 s (state_len s) ++ drop start bytes) (sym is.set_is) ∙ ap (λ (body : List ℕ). header 5 state.set (state_len state.set) ++ body) is.spelled;
+    };
+  }
+
+  pub body_of_state : IsOne 5 bytes (state_message state) → IsStateBody set (drop start bytes) state
+  body_of_state is =
+      let fits = is.spells.fits.1 in
+      let parts = same_front 5 state_len state.set set (state_body state) (drop start bytes) fits.known begins.known (sym is.spells.spelled ∙ begins.front) in
+      record { set_is = parts.0; kept = fits; spelled = sym parts.1 }
+
+module _ (bytes : List ℕ) (set : ParamSet) (start : ℕ) (reply : SwitchedReply) (begins : BeginsWith Reply bytes set start) where
+  pub reply_of_body : IsReplyBody set (drop start bytes) reply → IsOne 3 bytes (reply_message reply)
+  reply_of_body is = record {
+    kind_is = refl;
+    spells = record {
+      fits = (subst IsBuilt (sym is.set_is) begins.built, is.kept);
+      spelled = begins.front ∙ ap (λ (s : ParamSet). header 3 s (reply_len s) ++ drop start bytes) (sym is.set_is) ∙ ap (λ (body : List ℕ). header 3 reply.set (reply_len reply.set) ++ body) is.spelled;
+    };
+  }
+
+  pub body_of_reply : IsOne 3 bytes (reply_message reply) → IsReplyBody set (drop start bytes) reply
+  body_of_reply is =
+      let fits = is.spells.fits.1 in
+      let parts = same_front 3 reply_len reply.set set (reply_body reply) (drop start bytes) fits.known begins.known (sym is.spells.spelled ∙ begins.front) in
+      record { set_is = parts.0; kept = fits; spelled = sym parts.1 }

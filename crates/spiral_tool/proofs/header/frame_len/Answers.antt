@@ -1,0 +1,13 @@
+use Rattle.std.proofs.Common.{arith, ap, length}
+use Rattle.spiral_model.proofs.FrameLaws.{length-header, name-most}
+use Rattle.spiral_tool.specs.Headers.{kind_code, body_len_of}
+use Rattle.spiral_tool.proofs.Headers.{body_len-most}
+use Rattle.spiral_tool.proofs.header.frame_len.Goals as goal
+
+pub returns-clause-value : goal.returns-clause-value
+returns-clause-value c =
+    omega (arith, ap length c.name.ensures, length-header (kind_code c.args.kind) c.args.set.now (body_len_of c.args.kind c.args.set.now), c.body_len.ensures)
+
+pub returns-clause-most : goal.returns-clause-most
+returns-clause-most c =
+    omega (arith, ap length c.name.ensures, c.body_len.ensures, name-most c.args.set.now c.requires, body_len-most c.args.kind c.args.set.now c.requires)

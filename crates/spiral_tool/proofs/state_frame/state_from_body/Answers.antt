@@ -1,0 +1,32 @@
+use Rattle.std.proofs.Common.{◌≡◌, ◌<◌, ℕ, List, length, sym, ◌∙◌, arith}
+use Rattle.std.proofs.lemmas.List.{take_rest}
+use Rattle.std.proofs.lemmas.Option.{MatchOption-at_none, MatchOption-at_some}
+use Rattle.spiral_model.specs.Sets.{max_records}
+use Rattle.bit_packing.proofs.Windows.{bytes_below}
+use Rattle.spiral_model.specs.Counts.{state_len}
+use Rattle.spiral_tool.proofs.Bodies.{length_of_state, index_below, secret_of_state, state_from_parts}
+use Rattle.spiral_tool.proofs.state_frame.state_from_body.Goals as goal
+
+pub returns-then-body-body_len-clause-none : goal.returns-then-body-body_len-clause-none
+returns-then-body-body_len-clause-none c =
+    λ state is. omega (arith, c.if-body-body_len.true, length_of_state c.args.set.now c.args.body.now state is, c.body_len.ensures)
+
+pub returns-then-index-max_records-clause-none : goal.returns-then-index-max_records-clause-none
+returns-then-index-max_records-clause-none c =
+    λ state is. omega (arith, index_below c.args.set.now c.args.body.now state is, c.number_at-index.ensures, c.max_records.ensures)
+
+pub returns-in_default-clause-none : goal.returns-in_default-clause-none
+returns-in_default-clause-none c =
+    λ state is.
+    MatchOption-at_none _ _ c.in_default.is c.in_ok-secret.ensures.none state.secret is.kept.ternary
+    (secret_of_state c.args.set.now c.args.body.now state is ∙ sym (take_rest c.args.body.now 8))
+
+pub returns-clause-found : goal.returns-clause-found
+returns-clause-found c =
+    let body : List ℕ = c.args.body.now in
+    let len : length body ≡ state_len c.args.set.now = omega (arith, c.if-body-body_len.false, c.body_len.ensures) in
+    let low : c.number_at-index.result < max_records c.args.set.now = omega (arith, c.if-index-max_records.false, c.max_records.ensures) in
+    state_from_parts c.args.set.now body c.number_at-index.result c.in-Some.secret.items c.requires (bytes_below body c.type_inv.body) len
+    c.number_at-index.ensures low
+    (MatchOption-at_some _ _ c.in-Some.secret c.in-Some.is c.in_ok-secret.ensures.ternary)
+    (MatchOption-at_some _ _ c.in-Some.secret c.in-Some.is c.in_ok-secret.ensures.spelled ∙ take_rest body 8)

@@ -1,0 +1,23 @@
+-- The bodies of the frames that the program reads.
+use Rattle.std.specs.Prelude.{ℕ, List, ◌≡◌}
+use Rattle.spiral_model.specs.declared.param_set.ParamSet.{ParamSet}
+use Rattle.spiral_model.specs.Switched.{QueryState, IsState, SwitchedReply, IsReply}
+use Rattle.spiral_model.specs.Frames.{state_body, reply_body}
+
+-- the bytes are the body of the frame of this state, of that set
+pub record IsStateBody (set : ParamSet) (bytes : List ℕ) (state : QueryState) : Type 0 where
+  pub set_is : state.set ≡ set
+  pub kept : IsState state
+  pub spelled : bytes ≡ state_body state
+
+abbrev pub NoStateBody : ParamSet → List ℕ → Type 0
+NoStateBody set bytes = (state : QueryState) → IsStateBody set bytes state → ⊥
+
+-- the bytes are the body of the frame of this reply, of that set
+pub record IsReplyBody (set : ParamSet) (bytes : List ℕ) (reply : SwitchedReply) : Type 0 where
+  pub set_is : reply.set ≡ set
+  pub kept : IsReply reply
+  pub spelled : bytes ≡ reply_body reply
+
+abbrev pub NoReplyBody : ParamSet → List ℕ → Type 0
+NoReplyBody set bytes = (reply : SwitchedReply) → IsReplyBody set bytes reply → ⊥

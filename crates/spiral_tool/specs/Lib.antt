@@ -1,0 +1,12 @@
+pub mod Texts
+pub mod Statuses
+pub mod Words
+pub mod Puts
+pub mod Inputs
+pub mod Headers
+pub mod Bodies
+pub mod Polys
+pub mod Reading
+pub mod Record
+pub mod Open
+pub mod Run

@@ -1,0 +1,190 @@
+ghost use Rattle.std.specs.Prelude.{◌<◌};
+
+use super::*;
+use std::test::Fail;
+
+/// The header of a State frame of edge-256: the magic, version 1, kind 5, the name behind its length, and the
+/// body's length 520.
+const STATE_HEADER: [u8; 23] = [
+    0x53, 0x50, 0x49, 0x52, 0x01, 0x05, 0x08, 0x65, 0x64, 0x67, 0x65, 0x2d, 0x32, 0x35, 0x36, 0x08,
+    0x02, 0x00, 0x00, 0x00, 0x00, 0x00, 0x00,
+];
+
+/// The header of a Reply frame of edge-256: kind 3, and the body's length 2064.
+const REPLY_HEADER: [u8; 23] = [
+    0x53, 0x50, 0x49, 0x52, 0x01, 0x03, 0x08, 0x65, 0x64, 0x67, 0x65, 0x2d, 0x32, 0x35, 0x36, 0x10,
+    0x08, 0x00, 0x00, 0x00, 0x00, 0x00, 0x00,
+];
+
+/// A State frame of edge-256: the index 2, and 512 zeros as the secret.
+fn state_frame(alloc: Global) -> Result<Vec<u8>, NoMemory> {
+    let mut bytes = Vec::new(alloc);
+    bytes.extend_from_slice(&STATE_HEADER)?;
+    bytes.extend_from_slice(&[2, 0, 0, 0, 0, 0, 0, 0])?;
+    for _ in 0..512 {
+        bytes.push(1)?;
+    }
+    Ok(bytes)
+}
+
+/// Byte `place` of the numbers 4v, v from 0 on, in 10 bits each.
+fn packed_byte(place: usize) -> u8
+    requires { place < 320 }
+{
+    let mut byte = 0;
+    for bit in 0..8 {
+        let position = 8 * place + bit;
+        if 4 * (position / 10) >> (position % 10) & 1 == 1 {
+            byte |= 1 << bit;
+        }
+    }
+    byte
+}
+
+/// A Reply frame of edge-256: one record of 1024 bytes, the numbers 4v in each entry, and zeros in row 0.
+fn reply_frame(alloc: Global) -> Result<Vec<u8>, NoMemory> {
+    let mut bytes = Vec::new(alloc);
+    bytes.extend_from_slice(&REPLY_HEADER)?;
+    bytes.extend_from_slice(&[1, 0, 0, 0, 0, 0, 0, 0, 0, 4, 0, 0, 0, 0, 0, 0])?;
+    for entry in 0..4 {
+        for place in 0..320 {
+            bytes.push(packed_byte(place))?;
+        }
+    }
+    for byte in 0..768 {
+        bytes.push(0)?;
+    }
+    Ok(bytes)
+}
+
+/// The bytes with another one at a place.
+fn changed(alloc: Global, bytes: &[u8], place: usize, byte: u8) -> Result<Vec<u8>, NoMemory> {
+    let mut copy = Vec::new(alloc);
+    copy.extend_from_slice(bytes)?;
+    if let Some(there) = copy.get_mut(place) {
+        *there = byte;
+    }
+    Ok(copy)
+}
+
+#[test]
+fn reads_a_state(rt: HostRuntime) -> Result<(), Fail> {
+    let alloc = rt.alloc();
+    let bytes = state_frame(alloc)?;
+    let Some(state) = state_of(alloc, &bytes)? else {
+        return Ok(assert!(rt; false, "the frame is no state"));
+    };
+    assert_eq!(rt; (state.set.name(), state.index), ("edge-256", 2));
+    assert_eq!(rt; state.secret.len(), 512);
+    assert!(rt; state.secret.iter().all(|z| *z == 0));
+    let signs = changed(alloc, &changed(alloc, &bytes, 31, 0)?, 542, 2)?;
+    let Some(state) = state_of(alloc, &signs)? else {
+        return Ok(assert!(rt; false, "the frame with other signs is no state"));
+    };
+    assert_eq!(rt;
+        (state.secret.first(), state.secret.last()),
+        (Some(&-1), Some(&1))
+    );
+    Ok(())
+}
+
+#[test]
+fn refuses_other_states(rt: HostRuntime) -> Result<(), Fail> {
+    let alloc = rt.alloc();
+    let mut bytes = state_frame(alloc)?;
+    // the magic, the version, the kind, the name's length, the name, the body's length, the index, the secret
+    for (place, byte) in [
+        (0, 0x52),
+        (4, 2),
+        (5, 3),
+        (6, 7),
+        (14, 0x37),
+        (15, 7),
+        (23, 4),
+        (30, 1),
+        (31, 3),
+        (542, 3),
+    ] {
+        let other = changed(alloc, &bytes, place, byte)?;
+        assert!(rt; state_of(alloc, &other)?.is_none(), "{byte} at {place}");
+    }
+    bytes.push(1)?;
+    assert!(rt; state_of(alloc, &bytes)?.is_none(), "a byte more");
+    bytes.truncate(542);
+    assert!(rt; state_of(alloc, &bytes)?.is_none(), "a byte less");
+    assert!(rt; state_of(alloc, &[])?.is_none(), "no byte");
+    Ok(())
+}
+
+#[test]
+fn reads_a_reply(rt: HostRuntime) -> Result<(), Fail> {
+    let alloc = rt.alloc();
+    let bytes = reply_frame(alloc)?;
+    assert_eq!(rt;
+        bytes.get(39..44),
+        Some([0x00, 0x10, 0x80, 0x00, 0x03].as_slice())
+    );
+    let Some(reply) = reply_of(alloc, &bytes)? else {
+        return Ok(assert!(rt; false, "the frame is no reply"));
+    };
+    assert_eq!(rt;
+        (reply.set().name(), reply.count(), reply.length()),
+        ("edge-256", 1, 1024)
+    );
+    assert!(rt; reply.set().n == 2);
+    for (row, column) in [(1, 1), (1, 2), (2, 1), (2, 2)] {
+        assert!(rt; row <= 2 && 1 <= column && column <= 2);
+        let numbers = reply.numbers(row, column);
+        assert_eq!(rt; numbers.len(), 256);
+        for (v, number) in numbers.iter().enumerate() {
+            assert_eq!(rt;
+                *number as usize / 4,
+                v,
+                "number {v} of row {row}, column {column}"
+            );
+            assert_eq!(rt; *number % 4, 0);
+        }
+    }
+    for column in [1, 2] {
+        assert!(rt; 1 <= column && column <= 2);
+        assert!(rt; reply.numbers(0, column).iter().all(|x| *x == 0));
+    }
+    Ok(())
+}
+
+#[test]
+fn refuses_other_replies(rt: HostRuntime) -> Result<(), Fail> {
+    let alloc = rt.alloc();
+    let mut bytes = reply_frame(alloc)?;
+    // the kind, the body's length, the count 5, the record lengths 0 and 1025
+    for (place, byte) in [(5, 5), (15, 0x11), (23, 5), (32, 0), (31, 1)] {
+        let other = changed(alloc, &bytes, place, byte)?;
+        assert!(rt; reply_of(alloc, &other)?.is_none(), "{byte} at {place}");
+    }
+    bytes.push(0)?;
+    assert!(rt; reply_of(alloc, &bytes)?.is_none(), "a byte more");
+    bytes.truncate(2086);
+    assert!(rt; reply_of(alloc, &bytes)?.is_none(), "a byte less");
+    Ok(())
+}
+
+#[test]
+fn puts_each_number_in_its_place(rt: HostRuntime) -> Result<(), Fail> {
+    let alloc = rt.alloc();
+    // the last byte of row 1, column 2, and the first of row 0, column 2
+    let bytes = changed(
+        alloc,
+        &changed(alloc, &reply_frame(alloc)?, 678, 0x80)?,
+        1703,
+        0xab,
+    )?;
+    let Some(reply) = reply_of(alloc, &bytes)? else {
+        return Ok(assert!(rt; false, "the frame is no reply"));
+    };
+    assert!(rt; reply.set().n == 2);
+    assert_eq!(rt; reply.numbers(1, 2).last(), Some(&512));
+    assert_eq!(rt; reply.numbers(2, 1).last(), Some(&1020));
+    assert_eq!(rt; reply.numbers(0, 2).first(), Some(&0xab));
+    assert_eq!(rt; reply.numbers(0, 1).first(), Some(&0));
+    Ok(())
+}

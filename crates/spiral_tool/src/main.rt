@@ -1,0 +1,51 @@
+//! The program: private information retrieval by commands over files.
+#![tactic(auto)]
+
+mod frames;
+mod header;
+mod input;
+mod open;
+mod output;
+mod reply_frame;
+mod run;
+mod state_frame;
+mod status;
+mod words;
+
+use crate::status::Status;
+use pir_io::{HostFiles, OpenGate, OutSink, SoundNet};
+use std::alloc::Global;
+use std::env;
+use std::io::{self, ErrorKind};
+use std::process::ExitCode;
+use std::rt::Env;
+
+// The words behind the program's name.
+fn command_words(rt: &(impl Env + AllocGlobal), alloc: Global) -> io::Result<Vec<String>> {
+    let mut words = Vec::new(alloc);
+    for word in env::args(rt)?.skip(1) {
+        words.push(word)?;
+    }
+    Ok(words)
+}
+
+fn main(rt: HostRuntime) -> ExitCode {
+    let alloc = rt.alloc();
+    // Words that are no text fit no command's form, as if there were none.
+    let words = match command_words(&rt, alloc) {
+        Ok(words) => words,
+        Err(error) if error.kind() == ErrorKind::OutOfMemory => {
+            return ExitCode::from(Status::NoMemory.number());
+        }
+        Err(_) => Vec::new(alloc),
+    };
+    let mut files = HostFiles::new(&rt, alloc);
+    let mut net = SoundNet::new(alloc, Vec::new(alloc), 1);
+    let mut sink = OutSink::new(&rt, alloc);
+    ExitCode::from(run::run(
+        &rt, alloc, &words, &mut files, &mut net, &OpenGate, &mut sink,
+    ))
+}
+
+#[cfg(test)]
+mod tests;

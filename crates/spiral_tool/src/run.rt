@@ -1,0 +1,45 @@
+ghost use Rattle.std.specs.Prelude.{◌≡◌, false, map, string_bytes};
+ghost use Rattle.spiral_tool.specs.Words.{asked};
+ghost use Rattle.spiral_tool.specs.Run.{Runs, Does};
+
+use crate::open::open_files;
+use crate::output::refuse;
+use crate::status::Status;
+use crate::words::Command;
+use pir_io::{Files, Gate, Net, Sink};
+use std::alloc::Global;
+use std::thread::Threads;
+
+/// The program: does what the words of a command line ask, on the files, the net and the sink that are handed
+/// in, and answers the status that the process ends with.
+pub fn run<R: Threads + Sync, F: Files, N: Net, G: Gate, O: Sink>(
+    _rt: &R,
+    alloc: Global,
+    args: &[String],
+    files: &mut F,
+    net: &mut N,
+    _gate: &G,
+    out: &mut O,
+) -> u8
+    requires { (N.seen net.old).is_open ≡ false }
+    ensures runs { Runs (F.seen files.old) (F.seen files.new) (O.seen out.old) (O.seen out.new) (map string_bytes args.now) result }
+    ensures net_kept { N.seen net.new ≡ N.seen net.old }
+{
+    execute(alloc, args, files, out).number()
+}
+
+// The command that the words give, done.
+fn execute<F: Files, O: Sink>(alloc: Global, args: &[String], files: &mut F, out: &mut O) -> Status
+    ensures { Does (F.seen files.old) (F.seen files.new) (O.seen out.old) (O.seen out.new) (asked (map string_bytes args.now)) result }
+{
+    match Command::from_words(args) {
+        Some(
+            Command::Open {
+                state,
+                reply,
+                out: record,
+            },
+        ) => open_files(alloc, files, out, state, reply, record),
+        None => refuse(out, b"usage\n", Status::Usage),
+    }
+}
