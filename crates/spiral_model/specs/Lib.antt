@@ -2,5 +2,8 @@ pub mod Sets
 pub mod Counts
 pub mod Records
 pub mod Switched
+pub mod Sampling
+pub mod Ciphertexts
+pub mod Queries
 pub mod Frames
 pub mod Refusals

@@ -10,3 +10,6 @@ pub use frame_error::FrameError;
 pub use no_memory::NoMemory;
 pub use param_set::ParamSet;
 pub use sets::{set_at, set_named};
+
+#[cfg(test)]
+mod tests;

@@ -1,0 +1,5 @@
+pub mod Samples
+pub mod Streams
+pub mod Secrets
+pub mod Rows
+pub mod Encryptions

@@ -1,0 +1,12 @@
+-- The modulus as the code writes it.
+use Rattle.std.proofs.Common.{◌≡◌, ◌<◌, refl, lit<}
+use Rattle.spiral_model.specs.Sets.{q}
+use Rattle.ring_poly.specs.declared.TheConstants.{Q}
+
+pub q_is : q ≡ Q
+unfolding q
+q_is = refl
+
+pub q_some : 0 < q
+unfolding q
+q_some = lit< tt

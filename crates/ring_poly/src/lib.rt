@@ -1,0 +1,17 @@
+//! Polynomials of the ring Z_q[x] / (x^N + 1), N = 256 or 2048, and their arithmetic.
+#![tactic(auto)]
+
+mod coefficients;
+mod convolution;
+mod poly;
+mod product;
+mod ring;
+#[cfg(test)]
+mod tests;
+
+pub use poly::Poly;
+pub use product::PolyT;
+pub use ring::Ring;
+
+/// The ring's modulus q = 268369921 * 249561089.
+pub const Q: u64 = 66974689739603969;

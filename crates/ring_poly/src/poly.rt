@@ -1,0 +1,117 @@
+ghost use Rattle.std.specs.Prelude.{◌≡◌, length, replicate, IfOk};
+ghost use Rattle.negacyclic.specs.Residues.{norm};
+ghost use Rattle.negacyclic.specs.Ring.{ring_add, ring_sub};
+ghost use Rattle.spiral_model.specs.Sets.{q};
+ghost use Rattle.ring_poly.specs.Polynomials.{IsDegree, AreResidues};
+
+use crate::coefficients;
+use no_memory::NoMemory;
+use std::alloc::Global;
+use std::marker::Model;
+
+/// A polynomial, seen as the list of its N coefficients, each a residue below q.
+#[derive(Debug, Drop)]
+pub struct Poly {
+    pub(crate) numbers: Vec<u64>,
+}
+
+impl Model for Poly {
+    ghost use Rattle.std.specs.Prelude.{List, ℕ};
+    ghost use Rattle.ring_poly.specs.Polynomials.{AreResidues};
+
+    ghost Value = { List ℕ };
+
+    ghost view = { λ a. a.numbers.items };
+
+    ghost invariant = { λ a. AreResidues a.numbers.items };
+}
+
+impl Poly {
+    /// The polynomial 0, with n coefficients.
+    pub fn zero(alloc: Global, n: usize) -> Result<Poly, NoMemory>
+        requires { IsDegree n }
+        ensures { IfOk result (λ a. a ≡ replicate n 0) }
+    {
+        Ok(Poly {
+            numbers: coefficients::zeros(alloc, n)?,
+        })
+    }
+
+    /// The polynomial with these coefficients.
+    pub fn from_coeffs(alloc: Global, c: &[u64]) -> Result<Poly, NoMemory>
+        requires degree { IsDegree (length c.now) }
+        requires residues { AreResidues c.now }
+        ensures { IfOk result (λ a. a ≡ c.now) }
+    {
+        Ok(Poly {
+            numbers: c.to_vec(alloc)?,
+        })
+    }
+
+    /// The same polynomial.
+    pub fn copy(&self) -> Result<Poly, NoMemory>
+        ensures { IfOk result (λ a. a ≡ self.now) }
+    {
+        Ok(Poly {
+            numbers: self.numbers.clone()?,
+        })
+    }
+
+    /// The coefficients, the constant one first.
+    pub fn coeffs(&self) -> &[u64]
+        ensures value { result.now ≡ self.now }
+        ensures residues { AreResidues result.now }
+    {
+        &self.numbers
+    }
+
+    /// Writes the coefficients. It takes no memory.
+    pub fn coeffs_into(&self, out: &mut [u64])
+        requires { length out.old ≡ length self.now }
+        ensures { out.new ≡ self.now }
+    {
+        out.copy_from_slice(&self.numbers);
+    }
+
+    /// Becomes 0, of the same degree. It takes no memory.
+    pub fn clear(&mut self)
+        ensures { self.new ≡ replicate (length self.old) 0 }
+    {
+        coefficients::clear(&mut self.numbers);
+    }
+
+    /// Becomes the polynomial with these coefficients, as many as it had. It takes no memory.
+    pub fn put_coeffs(&mut self, c: &[u64])
+        requires same_length { length c.now ≡ length self.old }
+        requires residues { AreResidues c.now }
+        ensures { self.new ≡ c.now }
+    {
+        self.numbers.copy_from_slice(c);
+    }
+
+    /// Becomes the sum of itself and b. It takes no memory.
+    pub fn add_assign(&mut self, b: &Poly)
+        requires { length b.now ≡ length self.old }
+        ensures value { self.new ≡ ring_add q (length self.old) self.old b.now }
+        ensures degree { length self.new ≡ length self.old }
+    {
+        coefficients::add(&mut self.numbers, &b.numbers);
+    }
+
+    /// Becomes the difference of itself and b. It takes no memory.
+    pub fn sub_assign(&mut self, b: &Poly)
+        requires { length b.now ≡ length self.old }
+        ensures value { self.new ≡ ring_sub q (length self.old) self.old b.now }
+        ensures degree { length self.new ≡ length self.old }
+    {
+        coefficients::subtract(&mut self.numbers, &b.numbers);
+    }
+
+    /// The norm: the sum of the absolute values of the coefficients' centred representatives, x where x is at most
+    /// (q - 1) / 2 and q - x above. Each is below 2^56 and there are less than 2^64, so the sum stays below 2^120.
+    pub fn norm1(&self) -> u128
+        ensures { result ≡ norm q self.now }
+    {
+        coefficients::norm1(&self.numbers)
+    }
+}
