@@ -7,4 +7,5 @@ if [ ! -r "$replay" ] || [ ! -r "$cases" ]; then
   echo "vectors.sh: skipped, the cases aren't there"
   exit 0
 fi
-"$replay" "$program" "$cases" edge-256 open 1
+# the cases of the commands and sets that the program has so far
+"$replay" "$program" "$cases" - ask 2 && "$replay" "$program" "$cases" - open 2

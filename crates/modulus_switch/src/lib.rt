@@ -5,6 +5,7 @@
 mod open;
 mod reply;
 mod state;
+mod switch;
 #[cfg(test)]
 mod tests;
 

@@ -86,7 +86,7 @@ fn scaled_difference(q1: u64, q2: u64, b: u64, sa: i64) -> i64
 }
 
 /// z / d rounded to the nearest number, an exact half upwards, modulo `modulus`.
-fn nearest_residue(z: i128, d: u64, modulus: u64) -> u64
+pub(crate) fn nearest_residue(z: i128, d: u64, modulus: u64) -> u64
     requires size { unsigned_abs z ≤ 2 ^ 100 }
     requires divisor { 0 < d }
     requires modulus { 0 < modulus }

@@ -1,8 +1,10 @@
-ghost use Rattle.std.specs.Prelude.{◌≡◌, ◌+◌, ◌*◌, ◌^◌, ◌<◌, ◌≤◌, length, replicate, slice_set, slice_index_or, [], All, IfOk};
-ghost use Rattle.spiral_model.specs.Sets.{IsSet, max_records, capacity, entries};
-ghost use Rattle.spiral_model.specs.Switched.{poly_place, modulus_at, IsSwitched};
+ghost use Rattle.std.specs.Prelude.{◌≡◌, ◌+◌, ◌*◌, ◌^◌, ◌<◌, ◌≤◌, length, replicate, map, slice_set, slice_index_or, [], All, IfOk};
+ghost use Rattle.spiral_model.specs.Sets.{IsSet, q, max_records, capacity, entries};
+ghost use Rattle.spiral_model.specs.Switched.{poly_place, modulus_at, switched, IsSwitched};
 
+use crate::switch::{modulus_at as modulus_of, switch_into};
 use no_memory::NoMemory;
+use ring_poly::Poly;
 use spiral_model::ParamSet;
 use std::alloc::Global;
 use std::marker::Model;
@@ -19,6 +21,21 @@ impl Model for Numbers {
     ghost Value = { List ℕ };
 
     ghost view = { λ a. a.items.items };
+}
+
+impl Numbers {
+    /// Becomes the residues switched to a modulus.
+    fn switch(&mut self, a: &[u64], m: u64)
+        requires residues { All (λ c. c < q) a.now }
+        requires some { 0 < m }
+        requires most { m ≤ 2 ^ 30 }
+        requires room { length self.old ≡ length a.now }
+        ensures value { self.new ≡ map (switched m) a.now }
+        ensures degree { length self.new ≡ length a.now }
+        ensures below { All (λ x. x < m) self.new }
+    {
+        switch_into(a, m, &mut self.items);
+    }
 }
 
 /// A reply: the number of records and their length, and the result's polynomials after the modulus switch, those
@@ -148,5 +165,20 @@ impl Reply {
         let place = place_of(&self.set, row, column);
         let poly = &mut self.polys[place];
         poly.items.copy_from_slice(numbers);
+    }
+
+    /// Switches a polynomial of the result to the modulus of a row (from 0), q1 in rows 1 to n and q2 in row 0, and puts
+    /// it there, in a column (from 1). All else stays. It takes no memory.
+    pub fn put(&mut self, row: u32, column: u32, a: &Poly)
+        requires row { row ≤ self.old.set.n }
+        requires first_column { 1 ≤ column }
+        requires column { column ≤ self.old.set.n }
+        requires degree { length a.now ≡ self.old.set.degree }
+        ensures { self.new ≡ record self.old { polys = slice_set self.old.polys (poly_place self.old.set row column) (map (switched (modulus_at self.old.set (poly_place self.old.set row column))) a.now) } }
+    {
+        let place = place_of(&self.set, row, column);
+        let m = modulus_of(&self.set, place);
+        let poly = &mut self.polys[place];
+        poly.switch(a.coeffs(), m);
     }
 }

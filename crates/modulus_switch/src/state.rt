@@ -3,7 +3,7 @@ use std::marker::Model;
 
 /// What the client keeps of a query until the reply comes: the set, the index that it asked for, and the
 /// secrets s_1 to s_n row by row, each N numbers of -1, 0 and 1.
-#[derive(Debug, Drop)]
+#[derive(Drop)]
 pub struct ClientState {
     pub set: ParamSet,
     pub index: u32,

@@ -1,1 +1,3 @@
 pub mod LeftToRead
+pub mod ReadingFront
+pub mod Kept

@@ -11,3 +11,4 @@ pub mod MemFiles
 pub mod Host
 pub mod NetPlan
 pub mod SoundNet
+pub mod Reading

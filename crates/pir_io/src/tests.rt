@@ -204,3 +204,45 @@ fn standard_output_takes_bytes_or_counts_a_failure(rt: HostRuntime) -> Result<()
 fn an_open_gate_lets_pass() {
     OpenGate.pass(3);
 }
+
+#[test]
+fn files_are_read_and_written_whole(rt: HostRuntime) -> Result<(), Fail> {
+    let alloc = rt.alloc();
+    let mut files = MemFiles::new(alloc, Vec::new(alloc));
+    let long = long_bytes(alloc)?;
+    write_file(&mut files, "a", b"short")?;
+    write_file(&mut files, "a", &long)?;
+    expect_bytes(&rt, files.bytes("a"), &long);
+    expect_bytes(
+        &rt,
+        Some(&read_front(alloc, &mut files, "a", 200_000)?),
+        &long,
+    );
+    expect_bytes(
+        &rt,
+        Some(&read_front(alloc, &mut files, "a", 2)?),
+        b"\0\x01",
+    );
+    Ok(())
+}
+
+// Three bytes more than one piece.
+fn long_bytes(alloc: Global) -> Result<Vec<u8>, NoMemory> {
+    let mut bytes = Vec::new(alloc);
+    for k in 0..PIECE + 3 {
+        bytes.push((k % 251) as u8)?;
+    }
+    Ok(bytes)
+}
+
+#[test]
+fn a_failing_call_ends_reading_and_writing(rt: HostRuntime) -> Result<(), Fail> {
+    let alloc = rt.alloc();
+    let mut files = MemFiles::new(alloc, vec![in alloc; 1, 3]?);
+    files.with("a", b"hello")?;
+    expect_bytes(&rt, Some(&read_front(alloc, &mut files, "a", 5)?), b"hello");
+    expect_failed(&rt, read_front(alloc, &mut files, "a", 5));
+    expect_failed(&rt, write_file(&mut files, "a", b"1234"));
+    expect_bytes(&rt, files.bytes("a"), b"12");
+    Ok(())
+}

@@ -3,3 +3,4 @@ pub mod Streams
 pub mod Secrets
 pub mod Rows
 pub mod Encryptions
+pub mod Runs

@@ -1,10 +1,11 @@
 -- Secrets that are drawn one after the other, and the shapes of what is drawn.
-use Rattle.std.proofs.Common.{◌≡◌, ℕ, ◌+◌, ◌*◌, ℤ, Bool, true, false, List, [], ◌∷◌, ◌++◌, length, if◌then◌else◌, Some, None, All, ◌∙◌, ap, arith}
+use Rattle.std.proofs.Common.{◌≡◌, ℕ, ◌+◌, ◌*◌, ℤ, Bool, true, false, List, [], ◌∷◌, ◌++◌, length, map, if◌then◌else◌, Some, None, All, ◌∙◌, ap, arith}
 use Rattle.std.specs.List.{range_with_len}
 use Rattle.std.specs.Option.{option_to_list}
 use Rattle.std.proofs.lemmas.List.Elements.{All-nil, All-cons, All-map}
-use Rattle.std.proofs.lemmas.List.FromFn.{length-map-range_with_len, map-range_with_len_more}
+use Rattle.std.proofs.lemmas.List.FromFn.{fill_by_all, get_or-map-range_with_len, length-map-range_with_len, map-range_with_len_more}
 use Rattle.spiral_model.specs.Sampling.{secret_numbers}
+use Rattle.spiral_model.specs.Queries.{secret_rows}
 use Rattle.spiral_model.specs.declared.param_set.ParamSet.{ParamSet}
 use Rattle.spiral_model.specs.Sets.{has_keys}
 use Rattle.regev_code.specs.Shapes.{rows_from, secrets_from, OfDegree}
@@ -36,3 +37,21 @@ secrets_from-degree set words start = record {
   scalar = secret_numbers-some set.degree words start (has_keys set);
   rows = rows_from-degree set.degree set.n words (start + (if has_keys set then set.degree else 0));
 }
+
+-- At the front of a query's words the secrets s_1 to s_n are those that a query's definition names.
+rows_same : (has : Bool) (N n : ℕ) (words : List ℕ)
+    → rows_from N n words (0 + (if has then N else 0)) ≡ map (λ r. secret_numbers N words ((if has then r + 1 else r) * N)) (range_with_len 0 n)
+rows_same true N n words =
+    fill_by_all (λ r. secret_numbers N words ((r + 1) * N)) (rows_from N n words (0 + N)) n [] (length-rows_from N n words (0 + N))
+    (λ k h.
+    let place : 0 + N + k * N ≡ (k + 1) * N = omega arith in
+    get_or-map-range_with_len (λ r. secret_numbers N words (0 + N + r * N)) 0 n k k [] h (omega arith) ∙ ap (λ (p : ℕ). secret_numbers N words p) place)
+rows_same false N n words =
+    fill_by_all (λ r. secret_numbers N words (r * N)) (rows_from N n words (0 + 0)) n [] (length-rows_from N n words (0 + 0))
+    (λ k h.
+    let place : 0 + 0 + k * N ≡ k * N = omega arith in
+    get_or-map-range_with_len (λ r. secret_numbers N words (0 + 0 + r * N)) 0 n k k [] h (omega arith) ∙ ap (λ (p : ℕ). secret_numbers N words p) place)
+
+pub secrets_from-rows : (set : ParamSet) (words : List ℕ) → (secrets_from set words 0).rows ≡ secret_rows set words
+unfolding secret_rows
+secrets_from-rows set words = rows_same (has_keys set) set.degree set.n words

@@ -47,6 +47,24 @@ impl<'a> Draw<'a> {
     {
         self.used
     }
+
+    /// A second cursor at the same place, to draw ahead with: while this one stays, nothing counts as taken.
+    pub fn again(&self) -> Draw<'a>
+        ensures { result ≡ self.now }
+    {
+        Draw {
+            words: self.words,
+            used: self.used,
+        }
+    }
+
+    /// Moves to the place of a cursor that drew ahead.
+    pub fn take_over(&mut self, ahead: &Draw<'a>)
+        ensures { self.new ≡ ahead.now }
+    {
+        self.words = ahead.words;
+        self.used = ahead.used;
+    }
 }
 
 /// The secrets of a set that the next words give: first the scalar one, where the set has keys, then s_1 to s_n, a

@@ -83,6 +83,7 @@ impl Mask {
         ensures value { IfOk result (λ row. row ≡ encrypted_row ring.now self.old secret.now error.now message.now) }
         ensures mask { self.new ≡ self.old }
     {
+        // tells that the degree is one of the two
         let _ = ring.degree();
         let mut row = Poly::from_coeffs(alloc, error)?;
         self.add_product(ring, secret, &mut row);
@@ -124,6 +125,7 @@ pub(crate) fn encrypt(
         error_part(words, start + (2 + i) * degree, scratch);
         rows.push(mask.row(alloc, ring, key, scratch, &message[i])?)?;
     }
+    // tells that the rows are few enough
     let _ = secret.count(scalar);
     Ok(Cipher::from_rows(rows))
 }

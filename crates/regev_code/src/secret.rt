@@ -14,7 +14,7 @@ use std::alloc::Global;
 use std::marker::Model;
 
 /// One secret: its numbers, and the same as a polynomial.
-#[derive(Debug, Drop)]
+#[derive(Drop)]
 struct Key {
     numbers: Vec<i8>,
     poly: Poly,
@@ -77,7 +77,7 @@ impl Key {
 }
 
 /// A client's secrets: the scalar one, where the set has keys, and s_1 to s_n.
-#[derive(Debug, Drop)]
+#[derive(Drop)]
 pub struct Secret {
     scalar: Option<Key>,
     rows: Vec<Key>,
@@ -206,7 +206,7 @@ impl Secret {
     }
 
     /// One of the secrets that a ciphertext is under, counted from 0, as a polynomial.
-    pub(crate) fn poly(&self, scalar: bool, i: usize) -> &Poly
+    pub fn poly(&self, scalar: bool, i: usize) -> &Poly
         requires { i < length (numbers_under self.now scalar) }
         ensures { result.now ≡ polynomial_of (slice_index_or (numbers_under self.now scalar) i []) }
     {

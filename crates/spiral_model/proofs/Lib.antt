@@ -1,3 +1,5 @@
 pub mod EachSet
 pub mod SetBounds
 pub mod FrameLaws
+mod Examples
+pub mod HeaderReading

@@ -1,5 +1,5 @@
 -- Bounds that the numbers of every set keep.
-use Rattle.std.proofs.Common.{◌≡◌, ℕ, ◌*◌, ◌^◌, ◌≤◌, ◌⊎◌, Bool, true, leb, eqb, refl, false, cond, nat_lt, ◌<◌, arith, pow_pos, lit<, ◌+◌, ◌-◌, ◌≢◌, ne_eqb, le-ltb, lt-ltb, mul-le-mul_right, leb-true, eqb-true, inl, inr}
+use Rattle.std.proofs.Common.{◌≡◌, ℕ, ◌*◌, ◌^◌, ◌≤◌, ◌⊎◌, Bool, true, leb, eqb, refl, false, cond, nat_lt, ◌<◌, arith, pow_pos, ◌+◌, ◌-◌, ◌≢◌, ne_eqb, le-ltb, lt-ltb, mul-le-mul_right, leb-true, eqb-true, inl, inr}
 use Rattle.std.specs.List.{AllByRecursion}
 use Rattle.spiral_model.specs.declared.param_set.ParamSet.{ParamSet}
 use Rattle.spiral_model.specs.declared.sets.TheConstants.{SETS}

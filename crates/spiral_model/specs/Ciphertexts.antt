@@ -1,5 +1,5 @@
 -- Regev ciphertexts over the ring: a list of polynomials c_0 to c_m, under secrets s_1 to s_m.
-use Rattle.std.specs.Prelude.{ℕ, ℤ, List, [], ◌∷◌, ◌+◌, ◌*◌, ◌-◌, ◌==◌, length, slice_index_or, if◌then◌else◌, pos}
+use Rattle.std.specs.Prelude.{ℕ, ℤ, List, [], ◌∷◌, ◌+◌, ◌*◌, ◌==◌, length, slice_index_or, if◌then◌else◌, pos}
 use Rattle.negacyclic.specs.Ring.{reduced, ring_add, ring_sub, ring_mul}
 use Rattle.spiral_model.specs.Sets.{q}
 use Rattle.spiral_model.specs.Sampling.{uniform_poly, error_poly}

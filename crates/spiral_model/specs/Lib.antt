@@ -1,9 +1,13 @@
 pub mod Sets
 pub mod Counts
 pub mod Records
+pub mod Databases
 pub mod Switched
 pub mod Sampling
 pub mod Ciphertexts
 pub mod Queries
+pub mod Gadgets
+pub mod Answering
 pub mod Frames
 pub mod Refusals
+pub mod Checks

@@ -1,5 +1,5 @@
 -- What a query's ciphertexts encrypt, and what is dealt from words: secrets and ciphertexts.
-use Rattle.std.specs.Prelude.{ℕ, ℤ, List, [], ◌∷◌, ◌++◌, ◌+◌, ◌-◌, ◌*◌, ◌/◌, ◌%◌, ◌^◌, ◌==◌, map, if◌then◌else◌, ◌≡◌, ◌<◌, length, All, sum_by, pos, neg_ℤ}
+use Rattle.std.specs.Prelude.{ℕ, ℤ, List, ◌++◌, ◌+◌, ◌-◌, ◌*◌, ◌/◌, ◌%◌, ◌^◌, ◌==◌, map, if◌then◌else◌, ◌≡◌, ◌<◌, length, All, sum_by, pos, neg_ℤ}
 use Rattle.std.specs.List.{range_with_len, flat_map}
 use Rattle.negacyclic.specs.Ring.{ring_scale}
 use Rattle.spiral_model.specs.declared.param_set.ParamSet.{ParamSet}

@@ -1,28 +1,28 @@
 use super::*;
 use std::test::Fail;
 
-// The names, in the order of the ids, and how many bytes each set's records have at most.
-const NAMES: [(&str, u64); 10] = [
-    ("tiny-spiral", 256),
-    ("tiny-pack", 256),
-    ("tiny-stream", 1024),
-    ("tiny-streampack", 1024),
-    ("edge-256", 1024),
-    ("spiral-2048", 8192),
-    ("pack-2048", 32768),
-    ("stream-2048", 15360),
-    ("streampack-2048", 49152),
-    ("big-2048", 8192),
+// The names, in the order of the ids, how many bytes each set's records have at most, and whether the set is handled.
+const NAMES: [(&str, u64, bool); 10] = [
+    ("tiny-spiral", 256, false),
+    ("tiny-pack", 256, false),
+    ("tiny-stream", 1024, true),
+    ("tiny-streampack", 1024, false),
+    ("edge-256", 1024, true),
+    ("spiral-2048", 8192, false),
+    ("pack-2048", 32768, false),
+    ("stream-2048", 15360, true),
+    ("streampack-2048", 49152, false),
+    ("big-2048", 8192, false),
 ];
 
 #[test]
 fn sets_are_found_by_their_names(rt: HostRuntime) -> Result<(), Fail> {
-    for (i, (name, capacity)) in NAMES.iter().enumerate() {
+    for (i, (name, capacity, built)) in NAMES.iter().enumerate() {
         let set = set_at(i);
         assert_eq!(rt; set_named(name).ok_or("no set")?, set, "{name}");
         assert_eq!(rt; set.name(), *name);
         assert_eq!(rt; set.capacity(), *capacity, "{name}");
-        assert_eq!(rt; set.built(), *name == "edge-256", "{name}");
+        assert_eq!(rt; set.built(), *built, "{name}");
     }
     assert_eq!(rt; set_named("tiny-spiraI"), None);
     assert_eq!(rt; set_named(""), None);
@@ -48,4 +48,54 @@ fn refusals_have_a_code_and_a_place(rt: HostRuntime) {
     };
     assert_eq!(rt; refusal.code(), 7);
     assert_eq!(rt; refusal.place(), 40);
+}
+
+// The front of the frame of a database of edge-256 whose body has 24 bytes: "SPIR", version 1, kind 6, the name behind
+// its length, the body length.
+const FRONT: [u8; 23] = [
+    0x53, 0x50, 0x49, 0x52, 0x01, 0x06, 0x08, 0x65, 0x64, 0x67, 0x65, 0x2d, 0x32, 0x35, 0x36, 0x18,
+    0x00, 0x00, 0x00, 0x00, 0x00, 0x00, 0x00,
+];
+
+// Accepts frames of that kind alone.
+const DATABASES: u8 = 0x40;
+
+#[test]
+fn a_header_is_read_when_it_is_whole(rt: HostRuntime) {
+    let whole = HeaderRead::Whole {
+        kind: 6,
+        set: set_at(4),
+        body: 24,
+        used: 23,
+    };
+    assert_eq!(rt; read_header(&FRONT, DATABASES), whole);
+    for size in 0..FRONT.len() {
+        assert_eq!(rt; read_header(&FRONT[..size], DATABASES), HeaderRead::More);
+    }
+}
+
+#[test]
+fn a_header_is_refused_by_its_first_wrong_byte(rt: HostRuntime) {
+    for (place, byte, kinds, refusal) in [
+        (3, 0x53, DATABASES, FrameError::Magic { place: 3 }),
+        (4, 3, DATABASES, FrameError::Version { place: 4, value: 3 }),
+        (5, 7, DATABASES, FrameError::Kind { place: 5, value: 7 }),
+        (5, 6, 0x2e, FrameError::Kind { place: 5, value: 6 }),
+        (7, 0xff, DATABASES, FrameError::UnknownSet { place: 7 }),
+        (
+            15,
+            15,
+            DATABASES,
+            FrameError::Length {
+                place: 15,
+                value: 15,
+                needed: 16,
+            },
+        ),
+    ] {
+        let mut front = FRONT;
+        assert!(rt; place < front.len());
+        front[place] = byte;
+        assert_eq!(rt; read_header(&front, kinds), HeaderRead::Refused(refusal));
+    }
 }

@@ -5,4 +5,10 @@ pub mod Bodies
 pub mod Polys
 pub mod Reading
 pub mod WholeFrames
+pub mod Writing
+pub mod WritingAll
+pub mod NamedSets
+pub mod Asking
 pub mod Opening
+pub mod WordForms
+pub mod SourceWords

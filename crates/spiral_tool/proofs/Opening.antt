@@ -1,20 +1,23 @@
 -- How the command that opens a reply ends, exit by exit.
-use Rattle.std.proofs.Common.{ℕ, List, IsTrue, ◌≡◌, ◌≢◌, ◌≤◌, ◌↔◌, inl, inr, Err, ap, sym, ◌∙◌, subst, refl, arith}
+use Rattle.std.proofs.Common.{ℕ, List, IsTrue, ◌≡◌, ◌≢◌, ◌<◌, ◌≤◌, ◌↔◌, inl, inr, Err, ap, sym, ◌∙◌, subst, refl, arith}
 use Rattle.pir_io.specs.Files.{FilesSeen, Keeps, KeepsOthers, content_of}
 use Rattle.pir_io.specs.Sink.{SinkSeen}
+use Rattle.spiral_model.specs.declared.param_set.ParamSet.{ParamSet}
+use Rattle.spiral_model.specs.Sets.{name_of}
+use Rattle.spiral_model.specs.Counts.{state_len, reply_len}
 use Rattle.spiral_model.specs.Switched.{QueryState, SwitchedReply, open_bytes}
-use Rattle.spiral_model.specs.Frames.{Message, IsOne, reply_message}
+use Rattle.spiral_model.specs.Frames.{Message, IsOne, state_body, reply_body, state_message, reply_message}
 use Rattle.spiral_tool.specs.declared.status.Status.{Status}
-use Rattle.spiral_tool.specs.declared.status.Status.TheVariants.{Done, NoMemory, Usage, FileFault, BadFrame, Absent, SinkFault}
+use Rattle.spiral_tool.specs.declared.status.Status.TheVariants.{Done, NoMemory, Usage, UnknownSet, IndexRange, WordsShort, FileFault, BadFrame, WrongSet, Absent, SinkFault}
 use Rattle.spiral_tool.specs.declared.input.InputError.{InputError}
 use Rattle.spiral_tool.specs.declared.input.InputError.TheVariants as input
-use Rattle.spiral_tool.specs.Texts.{absent_line, file_fault_line}
+use Rattle.spiral_tool.specs.Texts.{wrong_set_line, absent_line, file_fault_line}
 use Rattle.spiral_tool.specs.Puts.{GotNothing, Refused}
 use Rattle.spiral_tool.specs.Inputs.{StateIn, ReplyIn, NoStateIn, NoReplyIn}
 use Rattle.spiral_tool.specs.Reading.{FailedReading, FailedWriting, OnlyRead, ReadsMessage, HoldsPrefix}
 use Rattle.spiral_tool.specs.Record.{InputRefused, RecordEnds, WritesRecord}
-use Rattle.spiral_tool.specs.Open.{Opens, OpenEnds, BothIn, IsPresent, HasBadFrame, IsAbsent, FailedInOrder, HoldsSomeOfRecord}
-use Rattle.spiral_model.proofs.FrameLaws.{state_index_is, reply_count_is}
+use Rattle.spiral_tool.specs.Open.{Opens, OpenEnds, BothIn, IsPresent, HasBadFrame, HasWrongSet, IsAbsent, FailedInOrder, HoldsSomeOfRecord}
+use Rattle.spiral_model.proofs.FrameLaws.{same_front, frame_of_state, frame_of_reply, state_index_is, reply_count_is}
 use Rattle.spiral_tool.proofs.Kept.{same_content, still_told, then_only, rose_before}
 
 not_bad : (old : FilesSeen) (S R : List ℕ) (s : QueryState) (r : SwitchedReply) → BothIn old S R s r → HasBadFrame old S R → ⊥
@@ -25,26 +28,70 @@ not_absent : (old : FilesSeen) (S R : List ℕ) (s : QueryState) (r : SwitchedRe
 not_absent old S R s r both present absent =
     let i : s.index ≡ absent.0.index = state_index_is (content_of old S) s absent.0 both.state_in absent.2.state_in in
     let c : r.count ≡ absent.1.count = reply_count_is (content_of old R) r absent.1 both.reply_in absent.2.reply_in in
-    let le : absent.1.count ≤ absent.0.index = absent.3 in
+    let le : absent.1.count ≤ absent.0.index = absent.3.1 in
+    let lt : s.index < r.count = present.1 in
     omega arith
+
+-- bytes spell one set
+state_set_is : (x : List ℕ) (s t : QueryState) → IsOne 5 x (state_message s) → IsOne 5 x (state_message t) → s.set ≡ t.set
+state_set_is x s t hs ht =
+    let bodies = same_front 5 state_len s.set t.set (state_body s) (state_body t) hs.spells.fits.1.known ht.spells.fits.1.known (sym (frame_of_state x s hs) ∙ frame_of_state x t ht) in
+    bodies.0
+
+reply_set_is : (x : List ℕ) (r u : SwitchedReply) → IsOne 3 x (reply_message r) → IsOne 3 x (reply_message u) → r.set ≡ u.set
+reply_set_is x r u hr hu =
+    let bodies = same_front 3 reply_len r.set u.set (reply_body r) (reply_body u) hr.spells.fits.1.known hu.spells.fits.1.known (sym (frame_of_reply x r hr) ∙ frame_of_reply x u hu) in
+    bodies.0
+
+-- what the inputs spell is of one set or of two, whichever messages they are said to be
+one_set : (old : FilesSeen) (S R : List ℕ) (s t : QueryState) (r u : SwitchedReply) → BothIn old S R s r → BothIn old S R t u → s.set ≡ r.set → t.set ≡ u.set
+one_set old S R s t r u one other same =
+    sym (state_set_is (content_of old S) s t one.state_in other.state_in) ∙ same ∙ reply_set_is (content_of old R) r u one.reply_in other.reply_in
+
+not_wrong : (old : FilesSeen) (S R : List ℕ) (s : QueryState) (r : SwitchedReply) → BothIn old S R s r → s.set ≡ r.set → HasWrongSet old S R → ⊥
+not_wrong old S R s r both same wrong = wrong.3 (one_set old S R s wrong.0 r wrong.1 both wrong.2 same)
+
+wrong_not_absent : (old : FilesSeen) (S R : List ℕ) (s : QueryState) (r : SwitchedReply) → BothIn old S R s r → s.set ≢ r.set → IsAbsent old S R → ⊥
+wrong_not_absent old S R s r both differ absent = differ (one_set old S R absent.0 s absent.1 r absent.2 both absent.3.0)
 
 module _ (old new : FilesSeen) (so sn : SinkSeen) (S R O : List ℕ) where
   bad_frame_is : (status : Status) → OpenEnds old new so sn S R O status → IsTrue old.tells → status ≢ NoMemory → status ≢ FileFault → (status ≡ BadFrame) ↔ HasBadFrame old S R
   bad_frame_is Done e told m f = let d = e told in (λ h. absurd (cc h), λ bad. absurd (not_bad old S R d.0 d.1 d.2 bad))
   bad_frame_is NoMemory e told m f = absurd (m refl)
   bad_frame_is Usage e told m f = absurd e
+  bad_frame_is UnknownSet e told m f = absurd e
+  bad_frame_is IndexRange e told m f = absurd e
+  bad_frame_is WordsShort e told m f = absurd e
   bad_frame_is FileFault e told m f = absurd (f refl)
   bad_frame_is BadFrame e told m f = (λ h. (e.0 told).0, λ bad. refl)
+  bad_frame_is WrongSet e told m f = let d = e told in (λ h. absurd (cc h), λ bad. absurd (not_bad old S R d.0 d.1 d.2 bad))
   bad_frame_is Absent e told m f = let d = e told in (λ h. absurd (cc h), λ bad. absurd (not_bad old S R d.0 d.1 d.2 bad))
   bad_frame_is SinkFault e told m f = let d = e.1 told in (λ h. absurd (cc h), λ bad. absurd (not_bad old S R d.0 d.1 d.2 bad))
+
+  wrong_set_is : (status : Status) → OpenEnds old new so sn S R O status → IsTrue old.tells → status ≢ NoMemory → status ≢ FileFault → (status ≡ WrongSet) ↔ HasWrongSet old S R
+  wrong_set_is Done e told m f = let d = e told in (λ h. absurd (cc h), λ wrong. absurd (not_wrong old S R d.0 d.1 d.2 d.3.0.0 wrong))
+  wrong_set_is NoMemory e told m f = absurd (m refl)
+  wrong_set_is Usage e told m f = absurd e
+  wrong_set_is UnknownSet e told m f = absurd e
+  wrong_set_is IndexRange e told m f = absurd e
+  wrong_set_is WordsShort e told m f = absurd e
+  wrong_set_is FileFault e told m f = absurd (f refl)
+  wrong_set_is BadFrame e told m f = (λ h. absurd (cc h), λ wrong. absurd (not_bad old S R wrong.0 wrong.1 wrong.2 (e.0 told).0))
+  wrong_set_is WrongSet e told m f = let d = e told in (λ h. (d.0, d.1, d.2, d.3.0), λ wrong. refl)
+  wrong_set_is Absent e told m f = let d = e told in (λ h. absurd (cc h), λ wrong. absurd (not_wrong old S R d.0 d.1 d.2 d.3.0 wrong))
+  wrong_set_is SinkFault e told m f = let d = e.1 told in (λ h. absurd (cc h), λ wrong. absurd (not_wrong old S R d.0 d.1 d.2 d.3.0.0 wrong))
 
   absent_is : (status : Status) → OpenEnds old new so sn S R O status → IsTrue old.tells → status ≢ NoMemory → status ≢ FileFault → (status ≡ Absent) ↔ IsAbsent old S R
   absent_is Done e told m f = let d = e told in (λ h. absurd (cc h), λ absent. absurd (not_absent old S R d.0 d.1 d.2 d.3.0 absent))
   absent_is NoMemory e told m f = absurd (m refl)
   absent_is Usage e told m f = absurd e
+  absent_is UnknownSet e told m f = absurd e
+  absent_is IndexRange e told m f = absurd e
+  absent_is WordsShort e told m f = absurd e
   absent_is FileFault e told m f = absurd (f refl)
   absent_is BadFrame e told m f = (λ h. absurd (cc h), λ absent. absurd (not_bad old S R absent.0 absent.1 absent.2 (e.0 told).0))
-  absent_is Absent e told m f = let d = e told in (λ h. (d.0, d.1, d.2, d.3.0), λ absent. refl)
+  absent_is WrongSet e told m f = let d = e told in (λ h. absurd (cc h), λ absent. absurd (wrong_not_absent old S R d.0 d.1 d.2 d.3.0 absent))
+  absent_is Absent e told m f = let d = e told in (λ h. (d.0, d.1, d.2, (d.3.0, d.3.1)), λ absent. refl)
   absent_is SinkFault e told m f = let d = e.1 told in (λ h. absurd (cc h), λ absent. absurd (not_absent old S R d.0 d.1 d.2 d.3.0 absent))
 
   -- the refusals are exact
@@ -53,6 +100,7 @@ module _ (old new : FilesSeen) (so sn : SinkSeen) (S R O : List ℕ) where
     ends = e;
     others = others;
     bad_frame = λ told m f. bad_frame_is status e told m f;
+    wrong_set = λ told m f. wrong_set_is status e told m f;
     absent = λ told m f. absent_is status e told m f;
   }
 
@@ -117,15 +165,26 @@ module _ (old mid new : FilesSeen) (so sn : SinkSeen) (S R O : List ℕ) (s : Qu
 
 -- both were read, with nothing written until now
 module _ (old new : FilesSeen) (so sn : SinkSeen) (S R O : List ℕ) (s : QueryState) (r : SwitchedReply) (only : OnlyRead old new) (both : IsTrue old.tells → BothIn old S R s r) where
-  absent_ends : (status : Status) → r.count ≤ s.index → Refused so sn Absent (absent_line s.index r.count) status → OpenEnds old new so sn S R O status
-  absent_ends status absent (inl refused) = on_status (OpenEnds old new so sn S R O) Absent status refused.0 (λ told. (s, r, both told, (absent, only.keeps told, refused.1)))
-  absent_ends status absent (inr short) = unwritten old new so sn S R O only status short.0 short.1
+  wrong_set_ends : (status : Status) → s.set ≢ r.set → Refused so sn WrongSet (wrong_set_line (name_of s.set) (name_of r.set)) status → OpenEnds old new so sn S R O status
+  wrong_set_ends status differ (inl refused) = on_status (OpenEnds old new so sn S R O) WrongSet status refused.0 (λ told. (s, r, both told, (differ, only.keeps told, refused.1)))
+  wrong_set_ends status differ (inr short) = unwritten old new so sn S R O only status short.0 short.1
 
-  pub without_record : (status : Status) (index count : ℕ) → index ≡ s.index → count ≡ r.count → count ≤ index → Refused so sn Absent (absent_line index count) status → Opens old new so sn S R O status
-  without_record status index count index_is count_is absent refused =
+  pub of_two_sets : (status : Status) (expected found : ParamSet) → expected ≡ s.set → found ≡ r.set → s.set ≢ r.set
+      → Refused so sn WrongSet (wrong_set_line (name_of expected) (name_of found)) status → Opens old new so sn S R O status
+  of_two_sets status expected found expected_is found_is differ refused =
+      let line_is : wrong_set_line (name_of expected) (name_of found) ≡ wrong_set_line (name_of s.set) (name_of r.set) =
+      ap (λ (a : ParamSet). wrong_set_line (name_of a) (name_of found)) expected_is ∙ ap (λ (b : ParamSet). wrong_set_line (name_of s.set) (name_of b)) found_is in
+      opens old new so sn S R O status (wrong_set_ends status differ (subst (λ text. Refused so sn WrongSet text status) line_is refused)) (others_kept old new so sn S R O only)
+
+  absent_ends : (status : Status) → s.set ≡ r.set → r.count ≤ s.index → Refused so sn Absent (absent_line s.index r.count) status → OpenEnds old new so sn S R O status
+  absent_ends status same absent (inl refused) = on_status (OpenEnds old new so sn S R O) Absent status refused.0 (λ told. (s, r, both told, (same, absent, only.keeps told, refused.1)))
+  absent_ends status same absent (inr short) = unwritten old new so sn S R O only status short.0 short.1
+
+  pub without_record : (status : Status) (index count : ℕ) → s.set ≡ r.set → index ≡ s.index → count ≡ r.count → count ≤ index → Refused so sn Absent (absent_line index count) status → Opens old new so sn S R O status
+  without_record status index count same index_is count_is absent refused =
       let line_is : absent_line index count ≡ absent_line s.index r.count = ap (λ i. absent_line i count) index_is ∙ ap (λ k. absent_line s.index k) count_is in
       let le : r.count ≤ s.index = omega arith in
-      opens old new so sn S R O status (absent_ends status le (subst (λ text. Refused so sn Absent text status) line_is refused)) (others_kept old new so sn S R O only)
+      opens old new so sn S R O status (absent_ends status same le (subst (λ text. Refused so sn Absent text status) line_is refused)) (others_kept old new so sn S R O only)
 
 -- both were read, and the record was to be written
 module _ (old mid new : FilesSeen) (so sn : SinkSeen) (S R O : List ℕ) (s : QueryState) (r : SwitchedReply) (only : OnlyRead old mid) (both : IsTrue old.tells → BothIn old S R s r) (present : IsPresent s r) where
@@ -148,11 +207,17 @@ module _ (old mid new : FilesSeen) (so sn : SinkSeen) (S R O : List ℕ) (s : Qu
         last = λ told. failed.last (written told);
       }
   record_ends Usage e = absurd e
+  record_ends UnknownSet e = absurd e
+  record_ends IndexRange e = absurd e
+  record_ends WordsShort e = absurd e
   record_ends BadFrame e = absurd e
+  record_ends WrongSet e = absurd e
   record_ends Absent e = absurd e
 
-  pub with_record : (status : Status) → WritesRecord mid new so sn s r O status → Opens old new so sn S R O status
-  with_record status w = opens old new so sn S R O status (record_ends status w.ends) (λ told other different. w.others (written told) other different ∙ only.keeps told other)
+  pub with_record : (status : Status) (bytes : List ℕ) (len : ℕ) → bytes ≡ open_bytes s r → len ≡ r.record_length → WritesRecord mid new so sn bytes len O status → Opens old new so sn S R O status
+  with_record status bytes len bytes_is len_is w =
+      let ends = subst (λ b. RecordEnds mid new so sn b r.record_length O status) bytes_is (subst (λ n. RecordEnds mid new so sn bytes n O status) len_is w.ends) in
+      opens old new so sn S R O status (record_ends status ends) (λ told other different. w.others (written told) other different ∙ only.keeps told other)
 
 -- the reply found in the files as they were after the state was read stood there before
 pub both_in : (old mid : FilesSeen) (S R : List ℕ) (s : QueryState) (r : SwitchedReply) → OnlyRead old mid → (IsTrue old.tells → StateIn old S s) → (IsTrue mid.tells → ReplyIn mid R r) → IsTrue old.tells → BothIn old S R s r

@@ -7,6 +7,9 @@ pub mod Headers
 pub mod Bodies
 pub mod Polys
 pub mod Reading
+pub mod Outputs
 pub mod Record
 pub mod Open
+pub mod Ask
 pub mod Run
+pub mod Sources

@@ -6,8 +6,9 @@ use Rattle.pir_io.specs.Files.{FilesSeen, Keeps, KeepsOthers}
 use Rattle.pir_io.specs.Sink.{SinkSeen}
 use Rattle.spiral_model.specs.Switched.{QueryState, SwitchedReply, open_bytes}
 use Rattle.spiral_tool.specs.declared.status.Status.{Status}
-use Rattle.spiral_tool.specs.declared.status.Status.TheVariants.{Done, NoMemory, Usage, FileFault, BadFrame, Absent, SinkFault}
-use Rattle.spiral_tool.specs.Texts.{record_line, absent_line, file_fault_line}
+use Rattle.spiral_tool.specs.declared.status.Status.TheVariants.{Done, NoMemory, Usage, UnknownSet, IndexRange, WordsShort, FileFault, BadFrame, WrongSet, Absent, SinkFault}
+use Rattle.spiral_model.specs.Sets.{name_of}
+use Rattle.spiral_tool.specs.Texts.{record_line, wrong_set_line, absent_line, file_fault_line}
 use Rattle.spiral_tool.specs.Puts.{GotNothing, GotLine, GotPrefix, GotRefusal}
 use Rattle.spiral_tool.specs.Inputs.{StateIn, ReplyIn, NoStateIn, NoReplyIn}
 use Rattle.spiral_tool.specs.Reading.{FailedReading, FailedWriting}
@@ -21,17 +22,21 @@ pub record BothIn (files : FilesSeen) (state_name reply_name : List ℕ) (state 
 abbrev pub SomeBoth : FilesSeen → List ℕ → List ℕ → (QueryState → SwitchedReply → Type 0) → Type 0
 SomeBoth files state_name reply_name P = (state : QueryState) × (reply : SwitchedReply) × BothIn files state_name reply_name state reply × P state reply
 
--- the record of the asked index is there
+-- the reply is of the state's set, and the record of the asked index is there
 abbrev pub IsPresent : QueryState → SwitchedReply → Type 0
-IsPresent state reply = state.index < reply.count
+IsPresent state reply = (state.set ≡ reply.set) × (state.index < reply.count)
 
 -- STATE isn't a State frame; or it is, and REPLY isn't a Reply frame
 abbrev pub HasBadFrame : FilesSeen → List ℕ → List ℕ → Type 0
 HasBadFrame files state_name reply_name = NoStateIn files state_name ⊎ ((state : QueryState) × StateIn files state_name state × NoReplyIn files reply_name)
 
--- both are, and the index is not below the count
+-- both are, and their sets differ
+abbrev pub HasWrongSet : FilesSeen → List ℕ → List ℕ → Type 0
+HasWrongSet files state_name reply_name = SomeBoth files state_name reply_name (λ state reply. state.set ≢ reply.set)
+
+-- both are, of one set, and the index is not below the count
 abbrev pub IsAbsent : FilesSeen → List ℕ → List ℕ → Type 0
-IsAbsent files state_name reply_name = SomeBoth files state_name reply_name (λ state reply. reply.count ≤ state.index)
+IsAbsent files state_name reply_name = SomeBoth files state_name reply_name (λ state reply. (state.set ≡ reply.set) × (reply.count ≤ state.index))
 
 -- A file failed: reading STATE; or reading REPLY, where STATE is a State frame; or writing OUT, where both are
 -- frames and the record is there.
@@ -63,15 +68,22 @@ OpenEnds old new sink_old sink_new state_name reply_name out_name FileFault =
     × (IsTrue old.tells → HoldsSomeOfRecord old new state_name reply_name out_name) × GotRefusal sink_old sink_new file_fault_line
 OpenEnds old new sink_old sink_new state_name reply_name out_name BadFrame =
     (IsTrue old.tells → HasBadFrame old state_name reply_name × Keeps old new) × GotNothing sink_old sink_new
+OpenEnds old new sink_old sink_new state_name reply_name out_name WrongSet =
+    IsTrue old.tells → SomeBoth old state_name reply_name (λ state reply.
+    (state.set ≢ reply.set) × Keeps old new × GotRefusal sink_old sink_new (wrong_set_line (name_of state.set) (name_of reply.set)))
 OpenEnds old new sink_old sink_new state_name reply_name out_name Absent =
     IsTrue old.tells → SomeBoth old state_name reply_name (λ state reply.
-    (reply.count ≤ state.index) × Keeps old new × GotRefusal sink_old sink_new (absent_line state.index reply.count))
+    (state.set ≡ reply.set) × (reply.count ≤ state.index) × Keeps old new × GotRefusal sink_old sink_new (absent_line state.index reply.count))
 OpenEnds old new sink_old sink_new state_name reply_name out_name Usage = ⊥
+OpenEnds old new sink_old sink_new state_name reply_name out_name UnknownSet = ⊥
+OpenEnds old new sink_old sink_new state_name reply_name out_name IndexRange = ⊥
+OpenEnds old new sink_old sink_new state_name reply_name out_name WordsShort = ⊥
 
 -- What `open` does. Names other than OUT never change. Where neither memory was wanting nor a file failed, a bad
--- frame and an absent record are answered exactly where they are.
+-- frame, a reply of another set and an absent record are answered exactly where they are.
 pub record Opens (old new : FilesSeen) (sink_old sink_new : SinkSeen) (state_name reply_name out_name : List ℕ) (status : Status) : Type 0 where
   pub ends : OpenEnds old new sink_old sink_new state_name reply_name out_name status
   pub others : IsTrue old.tells → KeepsOthers old new out_name
   pub bad_frame : IsTrue old.tells → status ≢ NoMemory → status ≢ FileFault → (status ≡ BadFrame) ↔ HasBadFrame old state_name reply_name
+  pub wrong_set : IsTrue old.tells → status ≢ NoMemory → status ≢ FileFault → (status ≡ WrongSet) ↔ HasWrongSet old state_name reply_name
   pub absent : IsTrue old.tells → status ≢ NoMemory → status ≢ FileFault → (status ≡ Absent) ↔ IsAbsent old state_name reply_name

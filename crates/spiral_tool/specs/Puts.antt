@@ -3,7 +3,7 @@ use Rattle.std.specs.Prelude.{ℕ, List, ◌++◌, ◌≡◌, ◌⊎◌, IsTrue,
 use Rattle.pir_io.specs.Faults.{Rose}
 use Rattle.pir_io.specs.Sink.{SinkSeen}
 use Rattle.spiral_tool.specs.declared.status.Status.{Status}
-use Rattle.spiral_tool.specs.declared.status.Status.TheVariants.{Done, NoMemory, Usage, FileFault, BadFrame, Absent, SinkFault}
+use Rattle.spiral_tool.specs.declared.status.Status.TheVariants.{Done, NoMemory, Usage, UnknownSet, IndexRange, WordsShort, FileFault, BadFrame, WrongSet, Absent, SinkFault}
 
 -- nothing
 abbrev pub GotNothing : SinkSeen → SinkSeen → Type 0
@@ -28,8 +28,12 @@ Finishes old new text Done = GotLine old new text
 Finishes old new text SinkFault = GotPrefix old new text
 Finishes old new text NoMemory = GotNothing old new
 Finishes old new text Usage = ⊥
+Finishes old new text UnknownSet = ⊥
+Finishes old new text IndexRange = ⊥
+Finishes old new text WordsShort = ⊥
 Finishes old new text FileFault = ⊥
 Finishes old new text BadFrame = ⊥
+Finishes old new text WrongSet = ⊥
 Finishes old new text Absent = ⊥
 
 -- the line of a refusal with a status of its own; where memory was wanting for the line, that is the status

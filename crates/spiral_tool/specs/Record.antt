@@ -2,9 +2,8 @@
 use Rattle.std.specs.Prelude.{ℕ, List, IsTrue, ◌≡◌, Some}
 use Rattle.pir_io.specs.Files.{FilesSeen, KeepsOthers}
 use Rattle.pir_io.specs.Sink.{SinkSeen}
-use Rattle.spiral_model.specs.Switched.{QueryState, SwitchedReply, open_bytes}
 use Rattle.spiral_tool.specs.declared.status.Status.{Status}
-use Rattle.spiral_tool.specs.declared.status.Status.TheVariants.{Done, NoMemory, Usage, FileFault, BadFrame, Absent, SinkFault}
+use Rattle.spiral_tool.specs.declared.status.Status.TheVariants.{Done, NoMemory, Usage, UnknownSet, IndexRange, WordsShort, FileFault, BadFrame, WrongSet, Absent, SinkFault}
 use Rattle.spiral_tool.specs.declared.input.InputError.{InputError}
 use Rattle.spiral_tool.specs.declared.input.InputError.TheVariants as input
 use Rattle.spiral_tool.specs.Texts.{record_line, file_fault_line}
@@ -25,11 +24,15 @@ RecordEnds old new sink_old sink_new bytes len out_name NoMemory = (IsTrue old.t
 RecordEnds old new sink_old sink_new bytes len out_name FileFault =
     FailedWriting old new out_name × (IsTrue old.tells → HoldsPrefix old new out_name bytes) × GotRefusal sink_old sink_new file_fault_line
 RecordEnds old new sink_old sink_new bytes len out_name Usage = ⊥
+RecordEnds old new sink_old sink_new bytes len out_name UnknownSet = ⊥
+RecordEnds old new sink_old sink_new bytes len out_name IndexRange = ⊥
+RecordEnds old new sink_old sink_new bytes len out_name WordsShort = ⊥
 RecordEnds old new sink_old sink_new bytes len out_name BadFrame = ⊥
+RecordEnds old new sink_old sink_new bytes len out_name WrongSet = ⊥
 RecordEnds old new sink_old sink_new bytes len out_name Absent = ⊥
 
--- the opened record was to be written to a file
-pub record WritesRecord (old new : FilesSeen) (sink_old sink_new : SinkSeen) (state : QueryState) (reply : SwitchedReply) (out_name : List ℕ) (status : Status) : Type 0 where
-  pub ends : RecordEnds old new sink_old sink_new (open_bytes state reply) reply.record_length out_name status
+-- these bytes, a record of that length, were to be written to a file
+pub record WritesRecord (old new : FilesSeen) (sink_old sink_new : SinkSeen) (bytes : List ℕ) (len : ℕ) (out_name : List ℕ) (status : Status) : Type 0 where
+  pub ends : RecordEnds old new sink_old sink_new bytes len out_name status
   pub tells : new.tells ≡ old.tells
   pub others : IsTrue old.tells → KeepsOthers old new out_name

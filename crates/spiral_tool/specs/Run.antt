@@ -7,8 +7,9 @@ use Rattle.spiral_tool.specs.declared.status.Status.TheVariants.{NoMemory, Usage
 use Rattle.spiral_tool.specs.Texts.{usage_line}
 use Rattle.spiral_tool.specs.Puts.{GotNothing, GotRefusal}
 use Rattle.spiral_tool.specs.Statuses.{number_of_status}
-use Rattle.spiral_tool.specs.Words.{Asked, asks_open, asks_nothing, asked}
+use Rattle.spiral_tool.specs.Words.{Asked, asks_open, asks_ask, words_of, InForm, FitNone}
 use Rattle.spiral_tool.specs.Open.{Opens}
+use Rattle.spiral_tool.specs.Ask.{AsksFor}
 
 -- Words of no command's form: every file is as it was, and the status is Usage with its line, or memory was wanting.
 pub record Refuses (old new : FilesSeen) (sink_old sink_new : SinkSeen) (status : Status) : Type 0 where
@@ -18,8 +19,19 @@ pub record Refuses (old new : FilesSeen) (sink_old sink_new : SinkSeen) (status 
 -- what is asked, done
 abbrev pub Does : FilesSeen → FilesSeen → SinkSeen → SinkSeen → Asked → Status → Type 0
 Does old new sink_old sink_new (asks_open state reply out) status = Opens old new sink_old sink_new state reply out status
-Does old new sink_old sink_new asks_nothing status = Refuses old new sink_old sink_new status
+Does old new sink_old sink_new (asks_ask ask) status = AsksFor old new sink_old sink_new ask status
 
--- the words of a command line, done: the number is that of a status with which what they ask ends
+-- something asked in form, whose words these are, was done
+pub record DoesAsked (old new : FilesSeen) (sink_old sink_new : SinkSeen) (words : List (List ℕ)) (status : Status) : Type 0 where
+  pub asked : Asked
+  pub form : InForm asked
+  pub spelled : words ≡ words_of asked
+  pub does : Does old new sink_old sink_new asked status
+
+-- what is asked by the words was done, or they fit no command's form and were refused
+abbrev pub Executes : FilesSeen → FilesSeen → SinkSeen → SinkSeen → List (List ℕ) → Status → Type 0
+Executes old new sink_old sink_new words status = DoesAsked old new sink_old sink_new words status ⊎ (FitNone words × Refuses old new sink_old sink_new status)
+
+-- the words of a command line, executed: the number is that of a status with which this ends
 abbrev pub Runs : FilesSeen → FilesSeen → SinkSeen → SinkSeen → List (List ℕ) → ℕ → Type 0
-Runs old new sink_old sink_new words number = (status : Status) × (number ≡ number_of_status status) × Does old new sink_old sink_new (asked words) status
+Runs old new sink_old sink_new words number = (status : Status) × (number ≡ number_of_status status) × Executes old new sink_old sink_new words status

@@ -17,6 +17,27 @@ file_fault_line = line (codes "file fault")
 abbrev pub record_line : ℕ → List ℕ
 record_line len = codes "record " ++ (decimal len ++ line (codes " bytes"))
 
+-- the state is of the first set, the reply of the second
+abbrev pub wrong_set_line : List ℕ → List ℕ → List ℕ
+wrong_set_line expected found = codes "wrong set: expected " ++ (expected ++ (codes ", found " ++ (found ++ 10 ∷ [])))
+
 -- the asked index is not below the count of records
 abbrev pub absent_line : ℕ → ℕ → List ℕ
 absent_line index count = codes "absent: index " ++ (decimal index ++ (codes ", count " ++ (decimal count ++ 10 ∷ [])))
+
+-- the name is that of no set that this program handles
+abbrev pub unknown_set_line : List ℕ
+unknown_set_line = line (codes "unknown set")
+
+-- the index is not below the count of records that the set has at most
+abbrev pub index_range_line : ℕ → ℕ → List ℕ
+index_range_line index bound = codes "index " ++ (decimal index ++ (codes " is not below " ++ (decimal bound ++ 10 ∷ [])))
+
+-- so many words are needed, and the source holds fewer
+abbrev pub words_short_line : ℕ → ℕ → List ℕ
+words_short_line needed held = codes "words short: need " ++ (decimal needed ++ (codes ", have " ++ (decimal held ++ 10 ∷ [])))
+
+-- a query of that set was made, with a setup and a query of so many bytes
+abbrev pub query_line : List ℕ → ℕ → ℕ → List ℕ
+query_line set setup query =
+    codes "query " ++ (set ++ (codes " setup " ++ (decimal setup ++ (codes " bytes query " ++ (decimal query ++ line (codes " bytes"))))))

@@ -1,6 +1,7 @@
 //! The program: private information retrieval by commands over files.
 #![tactic(auto)]
 
+mod ask;
 mod frames;
 mod header;
 mod input;
@@ -8,6 +9,7 @@ mod open;
 mod output;
 mod reply_frame;
 mod run;
+mod source;
 mod state_frame;
 mod status;
 mod words;
@@ -47,5 +49,9 @@ fn main(rt: HostRuntime) -> ExitCode {
     ))
 }
 
+#[cfg(test)]
+mod ask_tests;
+#[cfg(test)]
+mod source_tests;
 #[cfg(test)]
 mod tests;

@@ -1,15 +1,17 @@
 ghost use Rattle.std.specs.Prelude.{◌≡◌, ◌<◌};
-ghost use Rattle.spiral_tool.specs.Texts.{absent_line};
+ghost use Rattle.spiral_model.specs.Sets.{IsSet, name_of};
+ghost use Rattle.spiral_tool.specs.Texts.{absent_line, wrong_set_line};
 ghost use Rattle.spiral_tool.specs.Puts.{Refused};
 ghost use Rattle.spiral_tool.specs.Record.{InputRefused, WritesRecord};
 ghost use Rattle.spiral_tool.specs.Open.{Opens};
 
 use crate::frames::{read_reply, read_state};
 use crate::input::InputError;
-use crate::output::{absent_text, finish, record_text, refuse, write_file};
+use crate::output::{absent_text, finish, record_text, refuse, write_file, wrong_set_text};
 use crate::status::Status;
-use modulus_switch::{ClientState, Reply, open_matrix};
+use pir_client::{OpenError, open};
 use pir_io::{Files, IoFault, Sink};
+use spiral_model::ParamSet;
 use std::alloc::Global;
 
 const FILE_FAULT: &[u8] = b"file fault\n";
@@ -33,11 +35,14 @@ pub fn open_files<F: Files, O: Sink>(
         Ok(reply) => reply,
         Err(error) => return refuse_input(sink, error),
     };
-    let count = reply.count();
-    if state.index >= count {
-        return refuse_absent(alloc, sink, state.index, count);
+    match open(alloc, &state, &reply) {
+        Ok(record) => write_record(alloc, files, sink, &record, reply.length(), out),
+        Err(OpenError::WrongSet { expected, found }) => {
+            refuse_set(alloc, sink, &expected, &found)
+        }
+        Err(OpenError::Absent { index, count }) => refuse_absent(alloc, sink, index, count),
+        Err(OpenError::NoMemory) => Status::NoMemory,
     }
-    write_record(alloc, files, sink, &state, &reply, out)
 }
 
 // Ends a command whose input gave no message.
@@ -51,6 +56,18 @@ fn refuse_input<O: Sink>(sink: &mut O, error: InputError) -> Status
     }
 }
 
+// Ends a command whose reply is of another set than its state.
+fn refuse_set<O: Sink>(alloc: Global, sink: &mut O, expected: &ParamSet, found: &ParamSet) -> Status
+    requires expected { IsSet expected.now }
+    requires found { IsSet found.now }
+    ensures { Refused (O.seen sink.old) (O.seen sink.new) Status.WrongSet (wrong_set_line (name_of expected.now) (name_of found.now)) result }
+{
+    match wrong_set_text(alloc, expected.name(), found.name()) {
+        Ok(text) => refuse(sink, text.as_bytes(), Status::WrongSet),
+        Err(_) => Status::NoMemory,
+    }
+}
+
 // Ends a command whose index isn't below the count.
 fn refuse_absent<O: Sink>(alloc: Global, sink: &mut O, index: u32, count: u32) -> Status
     ensures { Refused (O.seen sink.old) (O.seen sink.new) Status.Absent (absent_line index count) result }
@@ -61,25 +78,21 @@ fn refuse_absent<O: Sink>(alloc: Global, sink: &mut O, index: u32, count: u32) -
     }
 }
 
-// Opens the reply, writes the record and puts its line.
+// Writes an opened record of that length and puts its line.
 fn write_record<F: Files, O: Sink>(
     alloc: Global,
     files: &mut F,
     sink: &mut O,
-    state: &ClientState,
-    reply: &Reply,
+    record_bytes: &[u8],
+    length: u32,
     out: &str,
 ) -> Status
-    requires { state.now.set ≡ reply.now.set }
-    ensures { WritesRecord (F.seen files.old) (F.seen files.new) (O.seen sink.old) (O.seen sink.new) state.now reply.now out.now result }
+    ensures { WritesRecord (F.seen files.old) (F.seen files.new) (O.seen sink.old) (O.seen sink.new) record_bytes.now length out.now result }
 {
-    let Ok(record) = open_matrix(alloc, state, reply) else {
+    let Ok(text) = record_text(alloc, length) else {
         return Status::NoMemory;
     };
-    let Ok(text) = record_text(alloc, reply.length()) else {
-        return Status::NoMemory;
-    };
-    match write_file(files, out, record.as_slice()) {
+    match write_file(files, out, record_bytes) {
         Ok(()) => finish(sink, text.as_bytes()),
         Err(IoFault::Failed) => refuse(sink, FILE_FAULT, Status::FileFault),
         Err(IoFault::NoMemory) => Status::NoMemory,

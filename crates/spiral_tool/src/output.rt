@@ -1,7 +1,8 @@
 ghost use Rattle.std.specs.Prelude.{◌≡◌, IfOk, string_bytes};
 ghost use Rattle.spiral_tool.specs.Reading.{WritesFile};
 ghost use Rattle.spiral_tool.specs.Puts.{Refused, Finishes};
-ghost use Rattle.spiral_tool.specs.Texts.{record_line, absent_line};
+ghost use Rattle.spiral_tool.specs.Texts.{record_line, wrong_set_line, absent_line, index_range_line, words_short_line, query_line};
+ghost use Rattle.spiral_tool.specs.Outputs.{WritesOutputs, outputs_seen};
 
 use crate::status::Status;
 use pir_io::{Files, IoFault, Sink};
@@ -13,6 +14,23 @@ pub fn write_file<F: Files>(files: &mut F, name: &str, bytes: &[u8]) -> Result<(
 {
     files.create(name)?;
     files.append(name, bytes)?;
+    Ok(())
+}
+
+/// A file that a command writes: its name and the bytes that it is to hold.
+#[derive(Clone, Copy, Debug)]
+pub struct Output<'a> {
+    pub name: &'a str,
+    pub bytes: &'a [u8],
+}
+
+/// Writes outputs one after the other, up to the first that can't be written.
+pub fn write_outputs<F: Files>(files: &mut F, outputs: &[Output<'_>]) -> Result<(), IoFault>
+    ensures { WritesOutputs (F.seen files.old) (F.seen files.new) (outputs_seen outputs.now) result }
+{
+    for output in outputs {
+        write_file(files, output.name, output.bytes)?;
+    }
     Ok(())
 }
 
@@ -45,9 +63,42 @@ pub fn record_text(alloc: Global, length: u32) -> Result<String, AllocError>
     format!(in alloc; "record {length} bytes\n")
 }
 
+/// The line that says of which set the state is, and of which other one the reply.
+pub fn wrong_set_text(alloc: Global, expected: &str, found: &str) -> Result<String, AllocError>
+    ensures { IfOk result (λ text. string_bytes text ≡ wrong_set_line expected.now found.now) }
+{
+    format!(in alloc; "wrong set: expected {expected}, found {found}\n")
+}
+
 /// The line that says that the asked index isn't below the count.
 pub fn absent_text(alloc: Global, index: u32, count: u32) -> Result<String, AllocError>
     ensures { IfOk result (λ text. string_bytes text ≡ absent_line index count) }
 {
     format!(in alloc; "absent: index {index}, count {count}\n")
+}
+
+/// The line that says that an index isn't below the count of records that the set has at most.
+pub fn index_range_text(alloc: Global, index: u32, bound: u64) -> Result<String, AllocError>
+    ensures { IfOk result (λ text. string_bytes text ≡ index_range_line index bound) }
+{
+    format!(in alloc; "index {index} is not below {bound}\n")
+}
+
+/// The line that says how many words are needed, and how many the source holds.
+pub fn words_short_text(alloc: Global, needed: u64, held: usize) -> Result<String, AllocError>
+    ensures { IfOk result (λ text. string_bytes text ≡ words_short_line needed held) }
+{
+    format!(in alloc; "words short: need {needed}, have {held}\n")
+}
+
+/// The line that says of which set the query is, and how long the files of the setup and of the query are.
+pub fn query_text(
+    alloc: Global,
+    set: &str,
+    setup: usize,
+    query: usize,
+) -> Result<String, AllocError>
+    ensures { IfOk result (λ text. string_bytes text ≡ query_line set.now setup query) }
+{
+    format!(in alloc; "query {set} setup {setup} bytes query {query} bytes\n")
 }

@@ -1,7 +1,7 @@
 ghost use Rattle.std.specs.Prelude.{◌≡◌, false, map, string_bytes};
-ghost use Rattle.spiral_tool.specs.Words.{asked};
-ghost use Rattle.spiral_tool.specs.Run.{Runs, Does};
+ghost use Rattle.spiral_tool.specs.Run.{Runs, Executes};
 
+use crate::ask::ask_files;
 use crate::open::open_files;
 use crate::output::refuse;
 use crate::status::Status;
@@ -30,7 +30,7 @@ pub fn run<R: Threads + Sync, F: Files, N: Net, G: Gate, O: Sink>(
 
 // The command that the words give, done.
 fn execute<F: Files, O: Sink>(alloc: Global, args: &[String], files: &mut F, out: &mut O) -> Status
-    ensures { Does (F.seen files.old) (F.seen files.new) (O.seen out.old) (O.seen out.new) (asked (map string_bytes args.now)) result }
+    ensures { Executes (F.seen files.old) (F.seen files.new) (O.seen out.old) (O.seen out.new) (map string_bytes args.now) result }
 {
     match Command::from_words(args) {
         Some(
@@ -40,6 +40,7 @@ fn execute<F: Files, O: Sink>(alloc: Global, args: &[String], files: &mut F, out
                 out: record,
             },
         ) => open_files(alloc, files, out, state, reply, record),
+        Some(Command::Ask(ask)) => ask_files(alloc, files, out, &ask),
         None => refuse(out, b"usage\n", Status::Usage),
     }
 }

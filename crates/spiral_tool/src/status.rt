@@ -10,10 +10,18 @@ pub enum Status {
     NoMemory,
     /// The words fit no command's form.
     Usage,
+    /// The name is that of no set that this program handles.
+    UnknownSet,
+    /// The index isn't below the count of records that the set has at most.
+    IndexRange,
+    /// The source holds fewer words than are needed.
+    WordsShort,
     /// A file couldn't be read or written.
     FileFault,
     /// An input file isn't the one frame that is expected there.
     BadFrame,
+    /// The reply is of another set than the state.
+    WrongSet,
     /// The asked index isn't below the count of records.
     Absent,
     /// The line couldn't be put.
@@ -29,8 +37,12 @@ impl Status {
             Status::Done => 0,
             Status::NoMemory => 1,
             Status::Usage => 2,
+            Status::UnknownSet => 3,
+            Status::IndexRange => 4,
+            Status::WordsShort => 5,
             Status::FileFault => 7,
             Status::BadFrame => 9,
+            Status::WrongSet => 10,
             Status::Absent => 11,
             Status::SinkFault => 14,
         }

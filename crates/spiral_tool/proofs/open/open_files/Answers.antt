@@ -1,7 +1,6 @@
-use Rattle.std.proofs.Common.{◌≡◌, ◌<◌, ap, arith}
-use Rattle.spiral_model.specs.Switched.{QueryState}
+use Rattle.std.proofs.Common.{◌∙◌}
 use Rattle.spiral_tool.proofs.Kept.{then_only}
-use Rattle.spiral_tool.proofs.Opening.{without_state, without_reply, without_record, with_record, both_in}
+use Rattle.spiral_tool.proofs.Opening.{without_state, without_reply, of_two_sets, without_record, with_record, both_in}
 use Rattle.spiral_tool.proofs.open.open_files.Goals as goal
 
 pub returns-in-Err : goal.returns-in-Err
@@ -11,16 +10,23 @@ pub returns-in-Err-read_reply : goal.returns-in-Err-read_reply
 returns-in-Err-read_reply g c =
     without_reply _ _ _ _ _ _ _ _ _ c.in-Ok.ensures.reads.only c.in-Ok.ensures.reads.found _ c.in-Err-read_reply.error c.refuse_input-in-Err-read_reply.result c.in-Err-read_reply.ensures.reads c.refuse_input-in-Err-read_reply.ensures
 
-pub returns-then-state-count : goal.returns-then-state-count
-returns-then-state-count g c =
+pub returns-in-Ok-open : goal.returns-in-Ok-open
+returns-in-Ok-open g c =
     let only = then_only _ _ _ c.in-Ok.ensures.reads.only c.in-Ok-read_reply.ensures.reads.only in
     let both = both_in _ _ _ _ _ _ c.in-Ok.ensures.reads.only c.in-Ok.ensures.reads.found c.in-Ok-read_reply.ensures.reads.found in
-    without_record _ _ _ _ _ _ _ c.in-Ok.state c.in-Ok-read_reply.reply only both c.refuse_absent.result _ _ (ap (λ (s : QueryState). s.index) c.state.view_is) c.count-count.ensures.value c.if-state-count.true c.refuse_absent.ensures
+    let opened = c.in-Ok-open.ensures in
+    with_record _ _ _ _ _ _ _ _ c.in-Ok.state c.in-Ok-read_reply.reply only both (opened.0, opened.1) c.write_record.result _ _ (c.deref.ensures.value ∙ opened.2) c.length.ensures.value c.write_record.ensures
 
-pub returns : goal.returns
-returns g c =
-    let both = both_in _ _ _ _ _ _ c.in-Ok.ensures.reads.only c.in-Ok.ensures.reads.found c.in-Ok-read_reply.ensures.reads.found in
+pub returns-in-Err-WrongSet : goal.returns-in-Err-WrongSet
+returns-in-Err-WrongSet g c =
     let only = then_only _ _ _ c.in-Ok.ensures.reads.only c.in-Ok-read_reply.ensures.reads.only in
-    let index_is : c.state.inside.index ≡ c.in-Ok.state.index = ap (λ (s : QueryState). s.index) c.state.view_is in
-    let present : c.in-Ok.state.index < c.in-Ok-read_reply.reply.count = omega (arith, index_is, c.count-count.ensures.value, c.if-state-count.false) in
-    with_record _ _ _ _ _ _ _ _ c.in-Ok.state c.in-Ok-read_reply.reply only both present c.write_record.result c.write_record.ensures
+    let both = both_in _ _ _ _ _ _ c.in-Ok.ensures.reads.only c.in-Ok.ensures.reads.found c.in-Ok-read_reply.ensures.reads.found in
+    let opened = rw c.in-Err-WrongSet.field-0-is at c.in-Err-WrongSet.ensures in
+    of_two_sets _ _ _ _ _ _ _ c.in-Ok.state c.in-Ok-read_reply.reply only both c.refuse_set.result _ _ opened.0 opened.1 opened.2 c.refuse_set.ensures
+
+pub returns-in-Err-Absent : goal.returns-in-Err-Absent
+returns-in-Err-Absent g c =
+    let only = then_only _ _ _ c.in-Ok.ensures.reads.only c.in-Ok-read_reply.ensures.reads.only in
+    let both = both_in _ _ _ _ _ _ c.in-Ok.ensures.reads.only c.in-Ok.ensures.reads.found c.in-Ok-read_reply.ensures.reads.found in
+    let opened = rw c.in-Err-Absent.field-0-is at c.in-Err-Absent.ensures in
+    without_record _ _ _ _ _ _ _ c.in-Ok.state c.in-Ok-read_reply.reply only both c.refuse_absent.result _ _ opened.0 opened.1 opened.2 opened.3 c.refuse_absent.ensures

@@ -1,0 +1,6 @@
+pub mod SetNumbers
+pub mod KeptSecrets
+pub mod MessageLists
+pub mod Draws
+pub mod FirstWords
+pub mod QueryShapes

@@ -1,0 +1,13 @@
+//! The client of a private look-up: it makes a query from random words, and opens the reply.
+#![tactic(auto)]
+
+mod asking;
+mod messages;
+mod opening;
+mod query;
+mod state;
+#[cfg(test)]
+mod tests;
+
+pub use asking::{AskError, Asked, ask};
+pub use opening::{OpenError, open};

@@ -1,0 +1,212 @@
+ghost use Rattle.std.specs.Prelude.{◌≡◌, ◌+◌, ◌<◌, ◌^◌, length, All, IsTrue, true, false};
+ghost use Rattle.spiral_model.specs.Sets.{IsSet, IsBuilt, q};
+ghost use Rattle.spiral_model.specs.Queries.{IsCipher};
+
+use super::*;
+use modulus_switch::ClientState;
+use regev_code::{Cipher, QueryBody};
+use ring_poly::{Poly, Q};
+use spiral_model::{ParamSet, set_at};
+use std::alloc::Global;
+use std::process::Abort;
+use std::test::Fail;
+
+/// edge-256: N = 256, n = 2, and a query of 2 * 2 + 3 * 8 = 28 ciphertexts of 3 rows.
+const EDGE: usize = 4;
+
+/// A number for each place of the two secrets: 0, but -1 at the first place and 1 at the last.
+fn secret_numbers(alloc: Global) -> Result<Vec<i8>, Fail> {
+    let mut secret = Vec::new(alloc);
+    for place in 0..512 {
+        secret.push(match place {
+            0 => -1,
+            511 => 1,
+            _ => 0,
+        })?;
+    }
+    Ok(secret)
+}
+
+/// The frame of a state; nothing where it is none of the set.
+fn state_frame(
+    alloc: Global,
+    set: ParamSet,
+    index: u32,
+    secret: Vec<i8>,
+) -> Result<Option<Vec<u8>>, Fail>
+    requires known { IsSet set }
+    requires built { IsBuilt set }
+{
+    if u64::from(index) >= set.max_records() {
+        return Ok(None);
+    }
+    if secret.len() != (set.n * set.degree) as usize {
+        return Ok(None);
+    }
+    if !secret.iter().all(|s| s.unsigned_abs() <= 1) {
+        return Ok(None);
+    }
+    let state = ClientState { set, index, secret };
+    Ok(Some(encode_state(alloc, &state)?))
+}
+
+#[test]
+fn state_of_edge_256(rt: HostRuntime) -> Result<(), Fail> {
+    let alloc = rt.alloc();
+    let set = set_at(EDGE);
+    assert!(rt; set.built());
+    let frame = state_frame(alloc, set, 3, secret_numbers(alloc)?)?.ok_or("no state")?;
+    assert_eq!(rt; frame.len(), 543);
+    // 520 = 8 + 512 bytes of body, then the index
+    assert_eq!(rt;
+        &frame[..23],
+        b"SPIR\x01\x05\x08edge-256\x08\x02\0\0\0\0\0\0".as_slice()
+    );
+    assert_eq!(rt; &frame[23..31], [3u8, 0, 0, 0, 0, 0, 0, 0].as_slice());
+    for (place, byte) in frame[31..].iter().enumerate() {
+        let want = match place {
+            0 => 0,
+            511 => 2,
+            _ => 1,
+        };
+        assert_eq!(rt; *byte, want, "place {place}");
+    }
+    Ok(())
+}
+
+/// The residues of the query that aren't 0, by where they stand among all of them, with their bytes. Place 0 of row 0 of
+/// the first ciphertext is q - 1, place 5 of row 2 of the second one is 1, and place 255 of row 1 of the last one is 258.
+const PLACED: [(usize, u64, [u8; 7]); 3] = [
+    (0, 66974689739603968, [0, 0, 0xdf, 0x1e, 0x20, 0xf1, 0xed]),
+    ((3 + 2) * 256 + 5, 1, [1, 0, 0, 0, 0, 0, 0]),
+    ((3 * 27 + 1) * 256 + 255, 258, [2, 1, 0, 0, 0, 0, 0]),
+];
+
+/// Residue i of the query.
+fn residue_at(i: usize) -> u64 {
+    for (place, residue, _) in &PLACED {
+        if *place == i {
+            return *residue;
+        }
+    }
+    0
+}
+
+/// The bytes of residue i of the query.
+fn bytes_at(i: usize) -> [u8; 7] {
+    for (place, _, bytes) in &PLACED {
+        if *place == i {
+            return *bytes;
+        }
+    }
+    [0; 7]
+}
+
+#[tactic(auto, unfolding(spiral_model::specs::Sets::q))]
+fn are_residues(numbers: &[u64]) -> bool
+    ensures { IsTrue result → All (λ x. x < q) numbers.now }
+{
+    numbers.iter().all(|x| *x < Q)
+}
+
+/// Polynomial j of the query, of 256 residues.
+fn poly(rt: &impl Abort, alloc: Global, j: usize) -> Result<Poly, Fail>
+    requires { j < 2 ^ 32 }
+{
+    let mut coeffs = Vec::new(alloc);
+    for place in 0..256usize {
+        coeffs.push(residue_at(256 * j + place))?;
+    }
+    assert!(rt; coeffs.len() == 256);
+    assert!(rt; are_residues(&coeffs));
+    Ok(Poly::from_coeffs(alloc, &coeffs)?)
+}
+
+fn is_of_degree(a: &Poly, n: usize) -> bool
+    ensures { IsTrue result → length a.now ≡ n }
+{
+    a.coeffs().len() == n
+}
+
+fn are_of_degree(rows: &[Poly], n: usize) -> bool
+    ensures { IsTrue result → All (λ a. length a ≡ n) rows.now }
+{
+    rows.iter().all(|a| is_of_degree(a, n))
+}
+
+/// Ciphertext c of the query, of rows 0 to 2.
+fn cipher(rt: &impl Abort, alloc: Global, c: usize) -> Result<Cipher, Fail>
+    requires { c < 2 ^ 16 }
+{
+    let mut rows = Vec::new(alloc);
+    for r in 0..3usize {
+        rows.push(poly(rt, alloc, 3 * c + r)?)?;
+    }
+    assert!(rt; rows.len() == 3);
+    assert!(rt; are_of_degree(&rows, 256));
+    Ok(Cipher::from_rows(rows))
+}
+
+fn is_row(a: &Poly, n: usize) -> bool
+    ensures { IsTrue result → (length a.now ≡ n) × All (λ x. x < q) a.now }
+{
+    a.coeffs().len() == n
+}
+
+fn is_cipher(c: &Cipher, n: usize, m: usize) -> bool
+    requires { m < 2 ^ 31 }
+    ensures { IsTrue result → IsCipher n m c.now }
+{
+    c.polys.len() == m + 1 && c.polys.iter().all(|a| is_row(a, n))
+}
+
+fn are_ciphers(ciphers: &[Cipher], n: usize, m: usize) -> bool
+    requires { m < 2 ^ 31 }
+    ensures { IsTrue result → All (IsCipher n m) ciphers.now }
+{
+    ciphers.iter().all(|c| is_cipher(c, n, m))
+}
+
+/// The frame of the query.
+fn query_frame(rt: &impl Abort, alloc: Global, set: ParamSet) -> Result<Vec<u8>, Fail>
+    requires known { IsSet set }
+    requires direct { set.direct ≡ true }
+    requires plain { set.pack ≡ false }
+    requires degree { set.degree ≡ 256 }
+    requires two { set.n ≡ 2 }
+    requires first { set.nu1 ≡ 1 }
+    requires folded { set.nu2 ≡ 1 }
+    requires width { set.w_gsw ≡ 7 }
+{
+    let mut ciphers = Vec::new(alloc);
+    for c in 0..28usize {
+        ciphers.push(cipher(rt, alloc, c)?)?;
+    }
+    assert!(rt; ciphers.len() == 28);
+    assert!(rt; are_ciphers(&ciphers, 256, 2));
+    Ok(encode_query(alloc, &QueryBody { set, ciphers })?)
+}
+
+#[test]
+fn query_of_edge_256(rt: HostRuntime) -> Result<(), Fail> {
+    let alloc = rt.alloc();
+    let set = set_at(EDGE);
+    assert!(rt; set.direct && !set.pack && set.degree == 256 && set.n == 2);
+    assert!(rt; set.nu1 == 1 && set.nu2 == 1 && set.w_gsw == 7);
+    let frame = query_frame(&rt, alloc, set)?;
+    // 23 bytes of header, then 28 * 3 * 256 * 7 = 150528 = 0x24c00
+    assert_eq!(rt; frame.len(), 150_551);
+    assert_eq!(rt;
+        &frame[..23],
+        b"SPIR\x01\x02\x08edge-256\x00\x4c\x02\0\0\0\0\0".as_slice()
+    );
+    for i in 0..21504usize {
+        let start = 23 + 7 * i;
+        assert_eq!(rt;
+            &frame[start..start + 7],
+            bytes_at(i).as_slice(),
+            "residue {i}"
+        );
+    }
+    Ok(())
+}
