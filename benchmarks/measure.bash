@@ -9,20 +9,27 @@ work=$(mktemp -d) || exit 1
 trap 'rm -rf "$work"' EXIT
 cd "$work" || exit 1
 
-# measure LABEL WORDS..: runs the program and prints its time and the most memory that it held. The peak is the kernel's
-# own high-water mark (VmHWM), read every 5 ms while the program runs, so it may miss what came in its last 5 ms.
+# measure LABEL WORDS..: runs the program and prints its time and the most memory that it held: as GNU time tells it, where
+# that is there; else the kernel's own high-water mark (VmHWM), read every 5 ms while the program runs, which may miss what
+# came in its last 5 ms.
 measure() {
   local label=$1 start end process peak=0 seen status
   shift
   start=$(date +%s%N)
-  "$program" "$@" > said 2>&1 &
-  process=$!
-  while seen=$(awk '/^VmHWM/ { print $2 }' "/proc/$process/status" 2> /dev/null) && [ -n "$seen" ]; do
-    peak=$seen
-    sleep 0.005
-  done
-  wait "$process"
-  status=$?
+  if [ -x /usr/bin/time ]; then
+    /usr/bin/time -q -o peak -f %M "$program" "$@" > said 2>&1
+    status=$?
+    peak=$(tail -n 1 peak)
+  else
+    "$program" "$@" > said 2>&1 &
+    process=$!
+    while seen=$(awk '/^VmHWM/ { print $2 }' "/proc/$process/status" 2> /dev/null) && [ -n "$seen" ]; do
+      peak=$seen
+      sleep 0.005
+    done
+    wait "$process"
+    status=$?
+  fi
   end=$(date +%s%N)
   printf '%-24s %8d ms %8d KiB   %s (status %d)\n' "$label" $(((end - start) / 1000000)) "$peak" "$(cat said)" "$status"
 }
