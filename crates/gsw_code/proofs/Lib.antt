@@ -1,3 +1,4 @@
 pub mod Widths
 pub mod ColumnMessages
 pub mod Columns
+pub mod Products

@@ -5,7 +5,8 @@ ghost use Rattle.spiral_model.specs.Queries.{gsw_messages, gsw_columns};
 ghost use Rattle.regev_code.specs.Shapes.{OfDegree, taken, under};
 ghost use Rattle.gsw_code.specs.Messages.{first_columns};
 
-use crate::messages::{column_messages, digit_count, power_of, row_count};
+use crate::messages::{column_messages, power_of, row_count};
+use gadget_digits::digit_count;
 use no_memory::NoMemory;
 use regev_code::{Cipher, Draw, Secret, draw_cipher};
 use ring_poly::Ring;
@@ -56,7 +57,7 @@ fn draw_row(
     ensures ok { OnOk result (columns.new.items ≡ columns.old.items ++ encrypted_all ring.now draw.old.words draw.old.used (under ring.now secret.now set.now.pack) (first_columns set.now (under ring.now secret.now set.now.pack) (if bit then 1 else 0) r (digit_count_of set.now.w_gsw))) }
     ensures taken { OnOk result (draw.new ≡ taken draw.old (digit_count_of set.now.w_gsw * words_taken ring.now (rows set.now))) }
 {
-    for k in 0..digit_count(set) {
+    for k in 0..digit_count(set.w_gsw) {
         columns.push(draw_column(alloc, ring, set, secret, bit, r, k, draw)?)?;
     }
     Ok(())

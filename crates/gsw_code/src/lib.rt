@@ -2,8 +2,13 @@
 #![tactic(auto)]
 
 mod encrypt;
+mod gsw;
 mod messages;
+mod product;
+#[cfg(test)]
+mod product_tests;
 #[cfg(test)]
 mod tests;
 
 pub use encrypt::encrypt_bit;
+pub use gsw::{Gsw, Ready, forms_of};

@@ -12,14 +12,6 @@ use ring_poly::{Poly, Q, Ring};
 use spiral_model::ParamSet;
 use std::alloc::Global;
 
-/// t, how many digits of the width of GSW ciphertexts a residue has.
-pub(crate) fn digit_count(set: &ParamSet) -> u32
-    requires { IsSet set.now }
-    ensures { result ≡ digit_count_of set.now.w_gsw }
-{
-    (56 + set.w_gsw - 1) / set.w_gsw
-}
-
 /// m, the rows below row 0.
 pub(crate) fn row_count(set: &ParamSet) -> u32
     ensures { result ≡ rows set.now }

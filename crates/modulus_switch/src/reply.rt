@@ -1,6 +1,6 @@
 ghost use Rattle.std.specs.Prelude.{◌≡◌, ◌+◌, ◌*◌, ◌^◌, ◌<◌, ◌≤◌, length, replicate, map, slice_set, slice_index_or, [], All, IfOk};
 ghost use Rattle.spiral_model.specs.Sets.{IsSet, q, max_records, capacity, entries};
-ghost use Rattle.spiral_model.specs.Switched.{poly_place, modulus_at, switched, IsSwitched};
+ghost use Rattle.spiral_model.specs.Switched.{poly_place, modulus_at, switched, IsSwitched, IsReply};
 
 use crate::switch::{modulus_at as modulus_of, switch_into};
 use no_memory::NoMemory;
@@ -118,6 +118,7 @@ impl Reply {
     pub fn set(&self) -> ParamSet
         ensures value { result ≡ self.now.set }
         ensures known { IsSet result }
+        ensures kept { IsReply self.now }
     {
         self.set
     }

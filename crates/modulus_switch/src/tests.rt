@@ -1,10 +1,12 @@
 ghost use Rattle.std.specs.Prelude.{◌≡◌, ◌<◌, All, IfOk, IfSome, IsTrue};
-ghost use Rattle.spiral_model.specs.Sets.{IsSet};
+ghost use Rattle.spiral_model.specs.Sets.{IsSet, q};
 
 use super::*;
 use no_memory::NoMemory;
+use ring_poly::{Poly, Q};
 use spiral_model::{ParamSet, set_at};
 use std::alloc::Global;
+use std::process::Abort;
 use std::test::Fail;
 
 /// edge-256: N = 256, n = 2, p = 256, q1 = 1024, q2 = 4096, so a number b opens to b / 4 - (s a) / 16, rounded.
@@ -158,5 +160,49 @@ fn keeps_the_other_places(rt: HostRuntime) -> Result<(), Fail> {
             "row {row}, column {column}"
         );
     }
+    Ok(())
+}
+
+#[tactic(auto, unfolding(spiral_model::specs::Sets::q))]
+fn are_residues(numbers: &[u64]) -> bool
+    ensures { IsTrue result → All (λ x. x < q) numbers.now }
+{
+    numbers.iter().all(|x| *x < Q)
+}
+
+/// The polynomial with these coefficients in front, and 0 behind them.
+fn poly_of(rt: &impl Abort, alloc: Global, front: &[u64]) -> Result<Poly, Fail> {
+    let mut numbers = front.to_vec(alloc)?;
+    numbers.resize(256, 0)?;
+    assert!(rt; numbers.len() == 256);
+    assert!(rt; are_residues(&numbers));
+    Ok(Poly::from_coeffs(alloc, &numbers)?)
+}
+
+/// floor(q / 2048): just below half a step of q1 = 1024.
+const HALF_Q1: u64 = 32_702_485_224_416;
+
+/// floor(q / 8192): just below half a step of q2 = 4096.
+const HALF_Q2: u64 = 8_175_621_306_104;
+
+/// Delta = floor(q / 256) is four steps of q1, and sixteen of q2. Just below half a step goes down, and one more up; q - 1
+/// goes up to the modulus, which is 0. By python3: ((2 * c * m + q) // (2 * q)) % m.
+#[test]
+fn puts_a_polynomial_of_the_result(rt: HostRuntime) -> Result<(), Fail> {
+    let alloc = rt.alloc();
+    let set = set_at(EDGE);
+    assert!(rt; set.n == 2 && set.degree == 256);
+    let mut reply = Reply::zero(alloc, &set, 1, 1)?;
+    let delta = 261_619_881_795_328u64;
+    let body = [10 * delta, HALF_Q1, HALF_Q1 + 1, Q - 1];
+    let mask = [10 * delta, HALF_Q2, HALF_Q2 + 1, Q - 1];
+    let body = poly_of(&rt, alloc, &body)?;
+    let mask = poly_of(&rt, alloc, &mask)?;
+    assert!(rt; body.coeffs().len() == 256 && mask.coeffs().len() == 256);
+    reply.put(1, 2, &body);
+    reply.put(0, 1, &mask);
+    assert_eq!(rt; &reply.numbers(1, 2)[..5], [40u64, 0, 1, 0, 0].as_slice());
+    assert_eq!(rt; &reply.numbers(0, 1)[..5], [160u64, 0, 1, 0, 0].as_slice());
+    assert_eq!(rt; &reply.numbers(1, 1)[..5], [0u64; 5].as_slice());
     Ok(())
 }

@@ -1,4 +1,5 @@
 ghost use Rattle.std.specs.Prelude.{◌≡◌, ◌++◌, map, All, IfOk};
+ghost use Rattle.spiral_model.specs.Sets.{IsBuilt};
 ghost use Rattle.spiral_model.specs.Switched.{IsTernary};
 ghost use Rattle.spiral_model.specs.Frames.{CanBeSent, Spell, query_message, reply_message, state_message, secret_byte as secret_byte_of};
 
@@ -62,7 +63,7 @@ pub fn encode_query(alloc: Global, query: &QueryBody) -> Result<Vec<u8>, NoMemor
 
 /// The Reply frame of a reply.
 pub fn encode_reply(alloc: Global, reply: &Reply) -> Result<Vec<u8>, NoMemory>
-    requires { CanBeSent (reply_message reply.now) }
+    requires { IsBuilt reply.now.set }
     ensures { IfOk result (λ bytes. Spell (reply_message reply.now) bytes.items) }
 {
     let set = reply.set();

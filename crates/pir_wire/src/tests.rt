@@ -3,7 +3,7 @@ ghost use Rattle.spiral_model.specs.Sets.{IsSet, IsBuilt, q};
 ghost use Rattle.spiral_model.specs.Queries.{IsCipher};
 
 use super::*;
-use modulus_switch::ClientState;
+use modulus_switch::{ClientState, Reply};
 use regev_code::{Cipher, QueryBody};
 use ring_poly::{Poly, Q};
 use spiral_model::{ParamSet, set_at};
@@ -208,5 +208,83 @@ fn query_of_edge_256(rt: HostRuntime) -> Result<(), Fail> {
             "residue {i}"
         );
     }
+    Ok(())
+}
+
+fn are_below(numbers: &[u64], bound: u64) -> bool
+    ensures { IsTrue result → All (λ x. x < bound) numbers.now }
+{
+    numbers.iter().all(|x| *x < bound)
+}
+
+/// Puts numbers below 1024 into a reply of edge-256; says whether they were put.
+fn put(reply: &mut Reply, row: u32, column: u32, numbers: &[u64]) -> bool
+    ensures { reply.new.set ≡ reply.old.set }
+{
+    let set = reply.set();
+    if set.p_bits != 8 || set.q2_bits != 12 {
+        return false;
+    }
+    if row > set.n || column < 1 || column > set.n {
+        return false;
+    }
+    if numbers.len() != set.degree as usize || !are_below(numbers, 1024) {
+        return false;
+    }
+    reply.put_numbers(row, column, numbers);
+    true
+}
+
+/// The number 4v at each place v.
+fn fours(alloc: Global) -> Result<Vec<u64>, Fail> {
+    let mut numbers = Vec::new(alloc);
+    for v in 0..256u64 {
+        numbers.push(4 * v)?;
+    }
+    Ok(numbers)
+}
+
+/// 1, 2 and then zeros.
+fn one_and_two(alloc: Global) -> Result<Vec<u64>, Fail> {
+    let mut numbers = vec![in alloc; 0u64; 256]?;
+    numbers[0] = 1;
+    numbers[1] = 2;
+    Ok(numbers)
+}
+
+#[test]
+fn reply_of_edge_256(rt: HostRuntime) -> Result<(), Fail> {
+    let alloc = rt.alloc();
+    let set = set_at(EDGE);
+    assert!(rt; set.built());
+    assert!(rt; 1 <= set.max_records());
+    assert!(rt; 1024 <= set.capacity());
+    let mut reply = Reply::zero(alloc, &set, 1, 1024)?;
+    assert!(rt; put(&mut reply, 1, 1, &fours(alloc)?));
+    assert!(rt; put(&mut reply, 0, 2, &one_and_two(alloc)?));
+    let frame = encode_reply(alloc, &reply)?;
+    // 16 + 4 * 256 * 10 / 8 + 2 * 256 * 12 / 8 = 2064 = 0x810 bytes of body behind 23 of header
+    assert_eq!(rt; frame.len(), 2087);
+    assert_eq!(rt;
+        &frame[..23],
+        b"SPIR\x01\x03\x08edge-256\x10\x08\0\0\0\0\0\0".as_slice()
+    );
+    // 1 record of 1024 bytes
+    assert_eq!(rt;
+        &frame[23..39],
+        b"\x01\0\0\0\0\0\0\0\0\x04\0\0\0\0\0\0".as_slice()
+    );
+    // 0, 4, 8 and 12 in 10 bits each, then 16, 20, 24 and 28
+    assert_eq!(rt;
+        &frame[39..49],
+        b"\x00\x10\x80\x00\x03\x10\x50\x80\x01\x07".as_slice()
+    );
+    // 1008, 1012, 1016 and 1020 end the polynomial in row 1, column 1, of 320 bytes, before that in column 2
+    assert_eq!(rt;
+        &frame[354..364],
+        b"\xf0\xd3\x8f\x3f\xff\0\0\0\0\0".as_slice()
+    );
+    // row 0 stands behind the four entries: its column 2 begins at 39 + 4 * 320 + 384, with 1 and 2 in 12 bits each
+    assert_eq!(rt; &frame[1698..1708], b"\0\0\0\0\0\x01\x20\0\0\0".as_slice());
     Ok(())
 }

@@ -4,3 +4,6 @@ pub mod Secrets
 pub mod Rows
 pub mod Encryptions
 pub mod Runs
+pub mod Products
+pub mod DigitSums
+pub mod Rooms

@@ -16,7 +16,7 @@ use std::marker::Model;
 /// A cursor over a query's words. Each draw takes the next ones, exactly as many as its rule says.
 ///
 /// One fresh seed per query: two queries from the same words show the server how their indices differ.
-#[derive(Debug, Drop)]
+#[derive(Drop)]
 pub struct Draw<'a> {
     words: &'a [u64],
     used: usize,

@@ -3,8 +3,12 @@
 
 mod bodies;
 mod cipher;
+mod digit_sum;
 mod draw;
 mod encrypt;
+mod keys;
+mod product_form;
+mod room;
 mod sampling;
 mod secret;
 mod seeded;
@@ -13,6 +17,10 @@ mod tests;
 
 pub use bodies::{KeyBody, QueryBody};
 pub use cipher::{Cipher, phase};
+pub use digit_sum::add_digit_sum;
 pub use draw::{Draw, draw_cipher, draw_secret};
+pub use keys::{EvalKeys, SwitchKey};
+pub use product_form::{CipherT, from_form, to_form};
+pub use room::{Room, Scratch};
 pub use secret::Secret;
 pub use seeded::seeded_words;

@@ -10,9 +10,9 @@ use Rattle.negacyclic.specs.Digits.{number_of, repacked}
 use Rattle.negacyclic.proofs.Digits.{length-digits, number_of-digits, digits-number_of, length-repacked, repacked-back}
 use Rattle.spiral_model.specs.declared.param_set.ParamSet.{ParamSet}
 use Rattle.spiral_model.specs.Sets.{IsSet, name_of, set_of, entries, q1_bits, max_records, capacity}
-use Rattle.spiral_model.specs.Counts.{packed_len, state_len, reply_len}
+use Rattle.spiral_model.specs.Counts.{packed_len, query_len, state_len, reply_len}
 use Rattle.spiral_model.specs.Switched.{QueryState, IsState, SwitchedReply, IsReply, IsTernary}
-use Rattle.spiral_model.specs.Frames.{header, number, secret_byte, state_body, packed, reply_body, IsOne, frame_of, state_message, reply_message, Message}
+use Rattle.spiral_model.specs.Frames.{header, number, secret_byte, state_body, packed, reply_body, cipher_bytes, database_body, CanBeSent, IsOne, frame_of, set_of_message, query_message, state_message, reply_message, database_message, Message}
 use Rattle.spiral_model.proofs.EachSet.{each_set}
 use Rattle.spiral_model.proofs.SetBounds.{set_sizes}
 
@@ -65,7 +65,7 @@ pub length-header : (kind : ℕ) (set : ParamSet) (body : ℕ) → length (heade
 unfolding header
 length-header kind set body = omega (arith, length-append (name_of set) (number 8 body), length-digits 256 8 body)
 
-header_parts : (kind : ℕ) (set : ParamSet) (body : ℕ) (rest : List ℕ)
+pub header_parts : (kind : ℕ) (set : ParamSet) (body : ℕ) (rest : List ℕ)
     → header kind set body ++ rest ≡ 83 ∷ 80 ∷ 73 ∷ 82 ∷ 1 ∷ kind ∷ length (name_of set) ∷ (name_of set ++ (number 8 body ++ rest))
 unfolding header
 header_parts kind set body rest = ap (λ (t : List ℕ). 83 ∷ 80 ∷ 73 ∷ 82 ∷ 1 ∷ kind ∷ length (name_of set) ∷ t) (append_assoc (name_of set) (number 8 body) rest)
@@ -233,6 +233,27 @@ reply_count_is x r u hr hu =
     let fu = hu.spells.fits.1 in
     let bodies = same_front 3 reply_len r.set u.set (reply_body r) (reply_body u) fr.known fu.known (sym (frame_of_reply x r hr) ∙ frame_of_reply x u hu) in
     sym (count_in_body r fr) ∙ ap (λ (body : List ℕ). number_of 256 (take 8 body)) bodies.1 ∙ count_in_body u fu
+
+-- every frame begins with the header of its message's set
+known_of : (m : Message) → CanBeSent m → IsSet (set_of_message m)
+known_of (query_message query) fits = fits.1.known
+known_of (reply_message reply) fits = fits.1.known
+known_of (state_message state) fits = fits.1.known
+known_of (database_message table) fits = fits.1.known
+
+name_in_frame : (m : Message) → take (get_or (frame_of m) 6 0) (drop 7 (frame_of m)) ≡ name_of (set_of_message m)
+name_in_frame (query_message query) = name_in_front 2 query.set (query_len query.set) (cipher_bytes query.ciphers)
+name_in_frame (reply_message reply) = name_in_front 3 reply.set (reply_len reply.set) (reply_body reply)
+name_in_frame (state_message state) = name_in_front 5 state.set (state_len state.set) (state_body state)
+name_in_frame (database_message table) = name_in_front 6 table.set (16 + length table.bytes) (database_body table)
+
+-- Messages whose frames are the same bytes are of one set.
+pub same_set_of_frames : (kind : ℕ) (x : List ℕ) (m n : Message) → IsOne kind x m → IsOne kind x n → set_of_message m ≡ set_of_message n
+same_set_of_frames kind x m n hm hn =
+    same_from_name (set_of_message m) (set_of_message n) (known_of m hm.spells.fits) (known_of n hn.spells.fits)
+    (sym (name_in_frame m)
+    ∙ ap (λ (l : List ℕ). take (get_or l 6 0) (drop 7 l)) (sym hm.spells.spelled ∙ hn.spells.spelled)
+    ∙ name_in_frame n)
 
 front_is_whole : (limit : ℕ) (x y : List ℕ) → length y < limit → (take limit x ≡ y) ↔ (x ≡ y)
 front_is_whole limit x y short = (

@@ -104,7 +104,7 @@ unnamed_all name count all h =
     named_none name names SETS
     (h 0 (omega arith), (h 1 (omega arith), (h 2 (omega arith), (h 3 (omega arith), (h 4 (omega arith), (h 5 (omega arith), (h 6 (omega arith), (h 7 (omega arith), (h 8 (omega arith), (h 9 (omega arith), tt))))))))))
 
-id_at : (i : ℕ) (set : ParamSet) → i < 10 → slice_get SETS i ≡ Some set → set.id ≡ i
+pub id_at : (i : ℕ) (set : ParamSet) → i < 10 → slice_get SETS i ≡ Some set → set.id ≡ i
 id_at i set low at =
     let row : get_or SETS i set ≡ set = get_or_from_slice_get SETS i set set at in
     let ids : get_or (range_with_len 0 10) i 0 ≡ (get_or SETS i set).id = get_or-map (λ (s : ParamSet). s.id) SETS i set 0 low in

@@ -3,3 +3,6 @@ pub mod SetBounds
 pub mod FrameLaws
 mod Examples
 pub mod HeaderReading
+pub mod Outcomes
+pub mod DatabaseFrames
+pub mod SpelledDatabases

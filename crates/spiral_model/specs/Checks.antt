@@ -102,19 +102,21 @@ body_check bytes =
     let needed = needed_in (set_in bytes) (kind_in bytes) in
     record { decided_at = 14 + name_len_in bytes; fails = wrong_length (kind_in bytes) (body_len_in bytes) needed; refusal = Length (body_len_place bytes) (body_len_in bytes) needed }
 
--- The checks of a header: the magic "SPIR" byte by byte, version 1, an accepted kind, the name of a set, and the body
--- length that the kind needs.
+-- the checks from the name on, and those from the version on
 abbrev pub name_checks : List ℕ → List Check
 name_checks bytes = name_check bytes ∷ body_check bytes ∷ []
 
 abbrev pub version_checks : ℕ → List ℕ → List Check
 version_checks kinds bytes = version_check bytes ∷ kind_check kinds bytes ∷ name_checks bytes
 
+-- The checks of a header: the magic "SPIR" byte by byte, version 1, an accepted kind, the name of a set, and the body
+-- length that the kind needs.
 unfoldable pub header_checks : ℕ → List ℕ → List Check
 header_checks kinds bytes =
     magic_check bytes 0 83 ∷ magic_check bytes 1 80 ∷ magic_check bytes 2 73 ∷ magic_check bytes 3 82 ∷ version_checks kinds bytes
 
--- What a reader of headers answers, by what the checks find: a header that passes is of the set that it names.
+-- What a reader of headers answers, by what the checks find: a header that passes is of the set that it names, so that
+-- the last case never comes.
 abbrev pub whole_header : Option ParamSet → List ℕ → HeaderRead
 whole_header (Some set) bytes = Whole (kind_in bytes) set (body_len_in bytes) (header_len_in bytes)
 whole_header None bytes = Refused (UnknownSet 7)

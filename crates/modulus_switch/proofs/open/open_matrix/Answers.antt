@@ -2,9 +2,12 @@ use Rattle.std.proofs.Common.{◌≡◌, ℕ, List, length, ◌∙◌, ap, ap₂
 use Rattle.spiral_model.specs.declared.param_set.ParamSet.{ParamSet}
 use Rattle.spiral_model.specs.Records.{record_of}
 use Rattle.spiral_model.specs.Switched.{opened_values, open_bytes}
-use Rattle.spiral_model.proofs.SetBounds.{p_bits-some, p_bits-most}
+use Rattle.spiral_model.proofs.SetBounds.{entries-most, p_bits-some, p_bits-most}
 use Rattle.modulus_switch.proofs.Entries.{written}
 use Rattle.modulus_switch.proofs.open.open_matrix.Goals as goal
+
+pub overflow_mul-set : goal.overflow_mul-set
+overflow_mul-set c = omega (arith, entries-most c.set-set.result c.set-set.ensures.known)
 
 pub pack-requires-clause-some : goal.pack-requires-clause-some
 pack-requires-clause-some c = omega (arith, p_bits-some c.set-set.result c.set-set.ensures.known)

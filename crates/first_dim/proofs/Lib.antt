@@ -1,0 +1,5 @@
+pub mod CentredValues
+pub mod FlatPlaces
+pub mod PlaceSums
+pub mod ProductPlaces
+pub mod RecordMatrices

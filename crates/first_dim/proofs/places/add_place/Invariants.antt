@@ -1,0 +1,7 @@
+use Rattle.std.proofs.Common.{◌+◌}
+use Rattle.spiral_model.specs.Sets.{rows}
+use Rattle.first_dim.proofs.PlaceSums.{HasAdded, place_term}
+use Rattle.first_dim.proofs.places.add_place.Given as goal
+
+abbrev pub invariant-loop-r : goal.invariant-loop-r
+invariant-loop-r l = HasAdded l.set.degree (rows l.set + 1) l.initial.sum (λ row r. place_term l.set l.matrix l.firsts l.i l.c row r) l.r l.sum

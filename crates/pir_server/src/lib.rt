@@ -1,0 +1,9 @@
+//! The server of a private look-up: a database made ready, and its answers to queries.
+#![tactic(auto)]
+
+mod answering;
+mod server;
+#[cfg(test)]
+mod tests;
+
+pub use server::Server;

@@ -1,0 +1,118 @@
+ghost use Rattle.std.specs.Prelude.{◌≡◌, ◌≤◌, IfOk};
+ghost use Rattle.spiral_model.specs.Sets.{IsBuilt};
+ghost use Rattle.spiral_model.specs.Queries.{IsQuery};
+ghost use Rattle.spiral_model.specs.Answering.{answer_of};
+
+use crate::answering::{reply_of, scratches, set_of, zero_outputs, zero_reply};
+use first_dim::{Prepared, products};
+use fold_dims::fold;
+use modulus_switch::Reply;
+use no_memory::NoMemory;
+use pir_io::Gate;
+use query_expand::ready;
+use record_store::Database;
+use regev_code::{Cipher, EvalKeys, QueryBody, Scratch};
+use ring_poly::Ring;
+use spiral_model::ParamSet;
+use std::alloc::Global;
+use std::marker::Model;
+use std::thread::Threads;
+
+/// A database made ready to answer queries, with the working memory of its workers. Seen as the database and the number of
+/// workers.
+#[derive(Drop)]
+pub struct Server {
+    alloc: Global,
+    db: Database,
+    prepared: Prepared,
+    ring: Ring,
+    /// one for each worker
+    scratch: Vec<Scratch>,
+    /// room for the ciphertexts of the first dimension
+    outputs: Vec<Cipher>,
+}
+
+impl Model for Server {
+    ghost use Rattle.std.specs.Prelude.{length};
+    ghost use Rattle.pir_server.specs.Served.{Served, IsServed};
+
+    ghost Value = { Served };
+
+    ghost view = { λ s. record { table = s.db; workers = length s.scratch.items } };
+
+    ghost invariant = { λ s. IsServed s.db s.prepared s.ring s.scratch.items s.outputs.items };
+}
+
+impl Server {
+    /// A server of the database with so many workers, from 1 to 64.
+    pub fn new<R: Threads + Sync>(
+        _rt: &R,
+        alloc: Global,
+        db: Database,
+        workers: u32,
+    ) -> Result<Server, NoMemory>
+        requires built { IsBuilt db.set }
+        requires some { 1 ≤ workers }
+        requires few { workers ≤ 64 }
+        ensures { IfOk result (λ server. server ≡ record { table = db; workers = workers }) }
+    {
+        let set = db.set;
+        let ring = Ring::new(alloc, set.degree as usize)?;
+        let prepared = Prepared::new(alloc, &ring, &db)?;
+        Ok(Server {
+            alloc,
+            prepared,
+            ring,
+            scratch: scratches(alloc, &set, workers)?,
+            outputs: zero_outputs(alloc, &set)?,
+            db,
+        })
+    }
+
+    /// The set of its database.
+    pub fn set(&self) -> ParamSet
+        ensures { result ≡ self.now.table.set }
+    {
+        self.db.set
+    }
+
+    /// The answer to a query: the first dimension over the database, folded by the query's selections, and switched to the
+    /// small moduli of a reply. The same for each number of workers.
+    pub fn answer<R: Threads + Sync, G: Gate>(
+        &mut self,
+        rt: &R,
+        keys: Option<&EvalKeys>,
+        query: &QueryBody,
+        gate: &G,
+    ) -> Result<Reply, NoMemory>
+        requires set { query.now.set ≡ self.old.table.set }
+        requires query { IsQuery query.now }
+        ensures reply { IfOk result (λ reply. reply ≡ answer_of self.old.table query.now) }
+        ensures server { self.new ≡ self.old }
+    {
+        let mut reply = zero_reply(self.alloc, &self.db)?;
+        let set = set_of(&self.db);
+        let room = &mut self.scratch[0];
+        let ready = ready(self.alloc, &self.ring, &set, keys, query, room)?;
+        products(
+            rt,
+            &self.ring,
+            &self.prepared,
+            &ready.firsts,
+            &mut self.outputs,
+            &mut self.scratch,
+            gate,
+        );
+        fold(
+            rt,
+            &self.ring,
+            &set,
+            &mut self.outputs,
+            &ready.gsws,
+            &mut self.scratch,
+            gate,
+        );
+        reply_of(&set, &self.outputs[..set.n as usize], &mut reply);
+        Ok(reply)
+    }
+}

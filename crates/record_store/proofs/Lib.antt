@@ -1,0 +1,5 @@
+pub mod Numbers
+pub mod Spelling
+pub mod Values
+pub mod Wholes
+pub mod ReadingDatabases

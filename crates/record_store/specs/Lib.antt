@@ -1,0 +1,3 @@
+pub mod Preparing
+pub mod Decoding
+pub mod Storing

@@ -1,0 +1,103 @@
+ghost use Rattle.std.specs.Prelude.{◌≡◌, ◌+◌, ◌*◌, ◌<◌, ◌≤◌, length, replicate, IfOk};
+ghost use Rattle.spiral_model.specs.Sets.{IsSet, digit_count as digit_count_of};
+ghost use Rattle.regev_code.specs.Products.{smallest_width};
+
+use crate::CipherT;
+use gadget_digits::digit_count;
+use no_memory::NoMemory;
+use ring_poly::{Poly, PolyT};
+use spiral_model::ParamSet;
+use std::alloc::Global;
+use std::marker::Model;
+
+/// Room in which digit sums of a set are worked out, so that they take no memory. Seen as its set alone.
+#[derive(Drop)]
+pub struct Room {
+    set: ParamSet,
+    /// the digits of a polynomial, at the set's least width
+    pub(crate) digits: Vec<u64>,
+    /// one of its digits
+    pub(crate) poly: Poly,
+    /// the same in product form
+    pub(crate) form: PolyT,
+}
+
+impl Model for Room {
+    ghost use Rattle.spiral_model.specs.declared.param_set.ParamSet.{ParamSet};
+    ghost use Rattle.regev_code.specs.Products.{IsRoom};
+
+    ghost Value = { ParamSet };
+
+    ghost view = { λ r. r.set };
+
+    ghost invariant = { λ r. IsRoom r.set r.digits.items r.poly r.form };
+}
+
+/// The least width of a set's digits.
+fn least_width(set: &ParamSet) -> u32
+    requires { IsSet set.now }
+    ensures value { result ≡ smallest_width set.now }
+    ensures some { 1 ≤ result }
+    ensures most { result ≤ 56 }
+{
+    if set.direct { set.w_gsw } else { set.w_right }
+}
+
+impl Room {
+    /// Room for a set.
+    pub fn new(alloc: Global, set: &ParamSet) -> Result<Room, NoMemory>
+        requires { IsSet set.now }
+        ensures { IfOk result (λ room. room ≡ set.now) }
+    {
+        let degree = set.degree as usize;
+        let count = digit_count(least_width(set)) as usize;
+        Ok(Room {
+            set: *set,
+            digits: vec![in alloc; 0u64; count * degree]?,
+            poly: Poly::zero(alloc, degree)?,
+            form: PolyT::zero(alloc, degree)?,
+        })
+    }
+}
+
+/// Room in which a set's products of ciphertexts are worked out, so that they take no memory. Seen as its set alone.
+#[derive(Drop)]
+pub struct Scratch {
+    pub set: ParamSet,
+    pub room: Room,
+    /// a ciphertext of rows 0 to n
+    pub matrix: CipherT,
+    /// a ciphertext of rows 0 and 1
+    pub scalar: CipherT,
+    pub first: Poly,
+    pub second: Poly,
+}
+
+impl Model for Scratch {
+    ghost use Rattle.spiral_model.specs.declared.param_set.ParamSet.{ParamSet};
+    ghost use Rattle.regev_code.specs.Products.{IsScratch};
+
+    ghost Value = { ParamSet };
+
+    ghost view = { λ s. s.set };
+
+    ghost invariant = { λ s. IsScratch s.set s.room s.matrix s.scalar s.first s.second };
+}
+
+impl Scratch {
+    /// Room for a set.
+    pub fn new(alloc: Global, set: &ParamSet) -> Result<Scratch, NoMemory>
+        requires { IsSet set.now }
+        ensures { IfOk result (λ scratch. scratch ≡ set.now) }
+    {
+        let degree = set.degree as usize;
+        Ok(Scratch {
+            set: *set,
+            room: Room::new(alloc, set)?,
+            matrix: CipherT::zero(alloc, set, set.n)?,
+            scalar: CipherT::zero(alloc, set, 1)?,
+            first: Poly::zero(alloc, degree)?,
+            second: Poly::zero(alloc, degree)?,
+        })
+    }
+}
