@@ -7,5 +7,5 @@ if [ ! -r "$replay" ] || [ ! -r "$cases" ]; then
   echo "vectors.sh: skipped, the cases aren't there"
   exit 0
 fi
-# the cases of the commands and sets that the program has so far
-"$replay" "$program" "$cases" - ask 2 && "$replay" "$program" "$cases" - open 2
+# all cases of this file: the commands and sets that the program has so far
+"$replay" "$program" "$cases"

@@ -11,10 +11,10 @@ use Rattle.spiral_model.specs.Frames.{frame_of, state_message}
 use Rattle.pir_client.specs.declared.asking.Asked.{Asked}
 use Rattle.pir_client.specs.Asks.{IsAsked}
 use Rattle.spiral_tool.specs.declared.status.Status.{Status}
-use Rattle.spiral_tool.specs.declared.status.Status.TheVariants.{Done, NoMemory, Usage, UnknownSet, IndexRange, WordsShort, FileFault, BadFrame, WrongSet, Absent, SinkFault}
+use Rattle.spiral_tool.specs.declared.status.Status.TheVariants.{Done, NoMemory, Usage, UnknownSet, IndexRange, WordsShort, FileFault, BadFrame, WrongSet, Absent, BadRecords, SinkFault}
 use Rattle.spiral_tool.specs.Texts.{unknown_set_line, index_range_line, words_short_line, query_line, file_fault_line}
 use Rattle.spiral_tool.specs.Puts.{GotNothing, GotLine, GotPrefix, GotRefusal, Refused}
-use Rattle.spiral_tool.specs.Reading.{OnlyRead, FailedReading}
+use Rattle.pir_io.specs.Reading.{OnlyRead, FailedReading}
 use Rattle.spiral_tool.specs.Sources.{source_name, words_given, ReadsWords}
 use Rattle.spiral_tool.specs.Words.{AskWords}
 use Rattle.spiral_tool.specs.Outputs.{WroteAll, StoppedIn, FailedIn, OutputsEnd}
@@ -23,7 +23,7 @@ use Rattle.spiral_tool.proofs.Kept.{still_told, rose_before}
 use Rattle.spiral_tool.proofs.WritingAll.{three_same, wrote_all_after, stopped_in_after, failed_in_after}
 
 -- a name is that of one set
-one_set : (name : List ℕ) (s t : ParamSet) → Names name s → Names name t → s ≡ t
+pub one_set : (name : List ℕ) (s t : ParamSet) → Names name s → Names name t → s ≡ t
 one_set name s t hs ht = let both : Some s ≡ Some t = sym hs.named ∙ ht.named in cc
 
 not_past : (ask : AskWords) (s : ParamSet) → InRange ask s → IsPastRange ask → ⊥
@@ -52,6 +52,7 @@ module _ (old new : FilesSeen) (so sn : SinkSeen) (ask : AskWords) where
   unknown_set_is BadFrame e m = absurd e
   unknown_set_is WrongSet e m = absurd e
   unknown_set_is Absent e m = absurd e
+  unknown_set_is BadRecords e m = absurd e
   unknown_set_is SinkFault e m = (λ h. absurd (cc h), λ none. absurd (none e.1.0 e.1.1.names))
 
   index_range_is : (status : Status) → AskEnds old new so sn ask status → status ≢ NoMemory → (status ≡ IndexRange) ↔ IsPastRange ask
@@ -65,6 +66,7 @@ module _ (old new : FilesSeen) (so sn : SinkSeen) (ask : AskWords) where
   index_range_is BadFrame e m = absurd e
   index_range_is WrongSet e m = absurd e
   index_range_is Absent e m = absurd e
+  index_range_is BadRecords e m = absurd e
   index_range_is SinkFault e m = (λ h. absurd (cc h), λ past. absurd (not_past ask e.1.0 e.1.1 past))
 
   words_short_is : (status : Status) → AskEnds old new so sn ask status → IsTrue old.tells → status ≢ NoMemory → status ≢ FileFault → (status ≡ WordsShort) ↔ IsShort old ask
@@ -78,6 +80,7 @@ module _ (old new : FilesSeen) (so sn : SinkSeen) (ask : AskWords) where
   words_short_is BadFrame e told m f = absurd e
   words_short_is WrongSet e told m f = absurd e
   words_short_is Absent e told m f = absurd e
+  words_short_is BadRecords e told m f = absurd e
   words_short_is SinkFault e told m f = (λ h. absurd (cc h), λ short. absurd (not_short old ask e.1.0 e.1.1 (e.1.2 told).0.0 short))
 
   -- the refusals are exact
@@ -190,6 +193,7 @@ module _ (old mid new : FilesSeen) (so sn : SinkSeen) (ask : AskWords) (set : Pa
   asked_ends BadFrame e = absurd e
   asked_ends WrongSet e = absurd e
   asked_ends Absent e = absurd e
+  asked_ends BadRecords e = absurd e
 
   pub asked_written : (status : Status) → OutputsEnd mid new so sn (asked_outputs ask asked) text status → AsksFor old new so sn ask status
   asked_written status e = asks_for old new so sn ask status (asked_ends status e)

@@ -15,7 +15,8 @@ use Rattle.spiral_model.specs.Sets.{IsSet, IsBuilt, name_of}
 use Rattle.spiral_model.specs.Frames.{header, number}
 use Rattle.spiral_model.proofs.FrameLaws.{state_len-most, reply_len-most}
 use Rattle.spiral_tool.specs.declared.header.Kind.{Kind}
-use Rattle.spiral_tool.specs.declared.header.Kind.TheVariants.{Reply, State}
+use Rattle.spiral_tool.specs.declared.header.Kind.TheVariants.{Query, Reply, State}
+use Rattle.spiral_tool.proofs.Queries.{query_len-most}
 use Rattle.spiral_tool.specs.Headers.{body_len_of, header_of, frame_len_of, BeginsWith, BeginsWithNone}
 
 -- a number's bytes as the program writes them
@@ -39,7 +40,8 @@ pub header_written : (kind code body : ℕ) (set : ParamSet) (o0 o1 o2 o3 o4 o5 
 header_written kind code body set o0 o1 o2 o3 o4 o5 o6 name tail e0 e1 e2 ec e3 en e4 e5 et e6 =
     rw (e6, e5, e4, e3, e2, e1, e0, ec, en, et) (sym (header_pieces kind set body))
 
-pub body_len-most : (kind : Kind) (set : ParamSet) → IsSet set → body_len_of kind set ≤ 90000
+pub body_len-most : (kind : Kind) (set : ParamSet) → IsSet set → body_len_of kind set ≤ 8601600
+body_len-most Query set is = query_len-most set is
 body_len-most Reply set is = omega (arith, reply_len-most set is)
 body_len-most State set is = omega (arith, state_len-most set is)
 
@@ -75,11 +77,11 @@ none_before-all kind bytes count all before set body is built = before is.0 (ome
 
 -- no frame of the sets handled among the first `count` rows is longer
 pub record LongestBefore (kind : Kind) (count longest : ℕ) : Type 0 where
-  pub most : longest ≤ 110000
+  pub most : longest ≤ 8601630
   pub each : (j : ℕ) → j < count → (set : ParamSet) → get_or SETS j set ≡ set → IsBuilt set → frame_len_of kind set ≤ longest
 
 pub longest_before-more : (kind : Kind) (i longest len : ℕ) (row : ParamSet) → LongestBefore kind i longest → slice_get SETS i ≡ Some row
-    → (IsBuilt row → len ≡ frame_len_of kind row) → len ≤ 110000 → LongestBefore kind (i + 1) (max longest len)
+    → (IsBuilt row → len ≡ frame_len_of kind row) → len ≤ 8601630 → LongestBefore kind (i + 1) (max longest len)
 longest_before-more kind i longest len row before at is_len most = record {
   most = omega (arith, before.most);
   each =

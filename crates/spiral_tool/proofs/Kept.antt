@@ -2,7 +2,7 @@
 use Rattle.std.proofs.Common.{ℕ, List, [], IsTrue, ◌≡◌, ◌≤◌, unwrap_or, ap, sym, ◌∙◌, subst, arith}
 use Rattle.pir_io.specs.Files.{FilesSeen, Keeps, content_of}
 use Rattle.pir_io.specs.Faults.{Rose}
-use Rattle.spiral_tool.specs.Reading.{OnlyRead}
+use Rattle.pir_io.specs.Reading.{OnlyRead}
 
 -- what is kept reads the same
 pub same_content : (old new : FilesSeen) → Keeps old new → (name : List ℕ) → content_of new name ≡ content_of old name

@@ -8,14 +8,15 @@ use Rattle.spiral_model.specs.Counts.{state_len, reply_len}
 use Rattle.spiral_model.specs.Switched.{QueryState, SwitchedReply, open_bytes}
 use Rattle.spiral_model.specs.Frames.{Message, IsOne, state_body, reply_body, state_message, reply_message}
 use Rattle.spiral_tool.specs.declared.status.Status.{Status}
-use Rattle.spiral_tool.specs.declared.status.Status.TheVariants.{Done, NoMemory, Usage, UnknownSet, IndexRange, WordsShort, FileFault, BadFrame, WrongSet, Absent, SinkFault}
+use Rattle.spiral_tool.specs.declared.status.Status.TheVariants.{Done, NoMemory, Usage, UnknownSet, IndexRange, WordsShort, FileFault, BadFrame, WrongSet, Absent, BadRecords, SinkFault}
 use Rattle.spiral_tool.specs.declared.input.InputError.{InputError}
 use Rattle.spiral_tool.specs.declared.input.InputError.TheVariants as input
-use Rattle.spiral_tool.specs.Texts.{wrong_set_line, absent_line, file_fault_line}
+use Rattle.spiral_tool.specs.Texts.{record_line, wrong_set_line, absent_line, file_fault_line}
 use Rattle.spiral_tool.specs.Puts.{GotNothing, Refused}
 use Rattle.spiral_tool.specs.Inputs.{StateIn, ReplyIn, NoStateIn, NoReplyIn}
-use Rattle.spiral_tool.specs.Reading.{FailedReading, FailedWriting, OnlyRead, ReadsMessage, HoldsPrefix}
-use Rattle.spiral_tool.specs.Record.{InputRefused, RecordEnds, WritesRecord}
+use Rattle.pir_io.specs.Reading.{FailedReading, FailedWriting, OnlyRead, HoldsPrefix}
+use Rattle.spiral_tool.specs.Reading.{ReadsMessage}
+use Rattle.spiral_tool.specs.Record.{InputRefused, FileEnds, EndsWithFile}
 use Rattle.spiral_tool.specs.Open.{Opens, OpenEnds, BothIn, IsPresent, HasBadFrame, HasWrongSet, IsAbsent, FailedInOrder, HoldsSomeOfRecord}
 use Rattle.spiral_model.proofs.FrameLaws.{same_front, frame_of_state, frame_of_reply, state_index_is, reply_count_is}
 use Rattle.spiral_tool.proofs.Kept.{same_content, still_told, then_only, rose_before}
@@ -66,6 +67,7 @@ module _ (old new : FilesSeen) (so sn : SinkSeen) (S R O : List ℕ) where
   bad_frame_is BadFrame e told m f = (λ h. (e.0 told).0, λ bad. refl)
   bad_frame_is WrongSet e told m f = let d = e told in (λ h. absurd (cc h), λ bad. absurd (not_bad old S R d.0 d.1 d.2 bad))
   bad_frame_is Absent e told m f = let d = e told in (λ h. absurd (cc h), λ bad. absurd (not_bad old S R d.0 d.1 d.2 bad))
+  bad_frame_is BadRecords e told m f = absurd e
   bad_frame_is SinkFault e told m f = let d = e.1 told in (λ h. absurd (cc h), λ bad. absurd (not_bad old S R d.0 d.1 d.2 bad))
 
   wrong_set_is : (status : Status) → OpenEnds old new so sn S R O status → IsTrue old.tells → status ≢ NoMemory → status ≢ FileFault → (status ≡ WrongSet) ↔ HasWrongSet old S R
@@ -79,6 +81,7 @@ module _ (old new : FilesSeen) (so sn : SinkSeen) (S R O : List ℕ) where
   wrong_set_is BadFrame e told m f = (λ h. absurd (cc h), λ wrong. absurd (not_bad old S R wrong.0 wrong.1 wrong.2 (e.0 told).0))
   wrong_set_is WrongSet e told m f = let d = e told in (λ h. (d.0, d.1, d.2, d.3.0), λ wrong. refl)
   wrong_set_is Absent e told m f = let d = e told in (λ h. absurd (cc h), λ wrong. absurd (not_wrong old S R d.0 d.1 d.2 d.3.0 wrong))
+  wrong_set_is BadRecords e told m f = absurd e
   wrong_set_is SinkFault e told m f = let d = e.1 told in (λ h. absurd (cc h), λ wrong. absurd (not_wrong old S R d.0 d.1 d.2 d.3.0.0 wrong))
 
   absent_is : (status : Status) → OpenEnds old new so sn S R O status → IsTrue old.tells → status ≢ NoMemory → status ≢ FileFault → (status ≡ Absent) ↔ IsAbsent old S R
@@ -92,6 +95,7 @@ module _ (old new : FilesSeen) (so sn : SinkSeen) (S R O : List ℕ) where
   absent_is BadFrame e told m f = (λ h. absurd (cc h), λ absent. absurd (not_bad old S R absent.0 absent.1 absent.2 (e.0 told).0))
   absent_is WrongSet e told m f = let d = e told in (λ h. absurd (cc h), λ absent. absurd (wrong_not_absent old S R d.0 d.1 d.2 d.3.0 absent))
   absent_is Absent e told m f = let d = e told in (λ h. (d.0, d.1, d.2, (d.3.0, d.3.1)), λ absent. refl)
+  absent_is BadRecords e told m f = absurd e
   absent_is SinkFault e told m f = let d = e.1 told in (λ h. absurd (cc h), λ absent. absurd (not_absent old S R d.0 d.1 d.2 d.3.0 absent))
 
   -- the refusals are exact
@@ -195,7 +199,7 @@ module _ (old mid new : FilesSeen) (so sn : SinkSeen) (S R O : List ℕ) (s : Qu
   some_held told (inl same) = inl (same ∙ only.keeps told O)
   some_held told (inr part) = inr (s, r, both told, (present, part))
 
-  record_ends : (status : Status) → RecordEnds mid new so sn (open_bytes s r) r.record_length O status → OpenEnds old new so sn S R O status
+  record_ends : (status : Status) → FileEnds mid new so sn O (open_bytes s r) (record_line r.record_length) status → OpenEnds old new so sn S R O status
   record_ends Done e = λ told. (s, r, both told, (present, e.0 (written told), e.1))
   record_ends SinkFault e = (e.1.rose, λ told. (s, r, both told, (present, e.0 (written told), e.1)))
   record_ends NoMemory e = (λ told. some_held told (e.0 (written told)), e.1)
@@ -213,10 +217,11 @@ module _ (old mid new : FilesSeen) (so sn : SinkSeen) (S R O : List ℕ) (s : Qu
   record_ends BadFrame e = absurd e
   record_ends WrongSet e = absurd e
   record_ends Absent e = absurd e
+  record_ends BadRecords e = absurd e
 
-  pub with_record : (status : Status) (bytes : List ℕ) (len : ℕ) → bytes ≡ open_bytes s r → len ≡ r.record_length → WritesRecord mid new so sn bytes len O status → Opens old new so sn S R O status
+  pub with_record : (status : Status) (bytes : List ℕ) (len : ℕ) → bytes ≡ open_bytes s r → len ≡ r.record_length → EndsWithFile mid new so sn O bytes (record_line len) status → Opens old new so sn S R O status
   with_record status bytes len bytes_is len_is w =
-      let ends = subst (λ b. RecordEnds mid new so sn b r.record_length O status) bytes_is (subst (λ n. RecordEnds mid new so sn bytes n O status) len_is w.ends) in
+      let ends = subst (λ b. FileEnds mid new so sn O b (record_line r.record_length) status) bytes_is (subst (λ n. FileEnds mid new so sn O bytes (record_line n) status) len_is w.ends) in
       opens old new so sn S R O status (record_ends status ends) (λ told other different. w.others (written told) other different ∙ only.keeps told other)
 
 -- the reply found in the files as they were after the state was read stood there before

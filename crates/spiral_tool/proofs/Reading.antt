@@ -2,12 +2,14 @@
 use Rattle.std.proofs.Common.{◌≡◌, ℕ, ◌<◌, ◌↔◌, List, length, take, sym, subst, arith, length-append}
 use Rattle.spiral_model.specs.declared.param_set.ParamSet.{ParamSet}
 use Rattle.spiral_model.specs.Sets.{IsSet, IsBuilt}
-use Rattle.spiral_model.specs.Counts.{state_len, reply_len}
+use Rattle.spiral_model.specs.Counts.{state_len, reply_len, query_len}
 use Rattle.spiral_model.specs.Switched.{QueryState, SwitchedReply}
-use Rattle.spiral_model.specs.Frames.{Message, header, state_body, reply_body, frame_of, IsOne, state_message, reply_message}
+use Rattle.spiral_model.specs.Queries.{CipherBody}
+use Rattle.spiral_model.specs.Frames.{Message, header, cipher_bytes, state_body, reply_body, frame_of, IsOne, query_message, state_message, reply_message}
 use Rattle.spiral_model.proofs.FrameLaws.{only_front, length-state_body, length-reply_body}
-use Rattle.spiral_tool.specs.declared.header.Kind.TheVariants.{Reply, State}
+use Rattle.spiral_tool.specs.declared.header.Kind.TheVariants.{Query, Reply, State}
 use Rattle.spiral_tool.specs.Headers.{frame_len_of}
+use Rattle.spiral_tool.proofs.Queries.{length-cipher_bytes}
 
 module _ (limit : ℕ) (bytes content : List ℕ) (read : bytes ≡ take limit content) where
   front_of : (kind : ℕ) (m : Message) → length (frame_of m) < limit → IsOne kind bytes m ↔ IsOne kind content m
@@ -38,3 +40,15 @@ module _ (limit : ℕ) (bytes content : List ℕ) (read : bytes ≡ take limit c
 
     pub reply_of_front : IsOne 3 content (reply_message reply) → IsOne 3 bytes (reply_message reply)
     reply_of_front is = (front_of 3 (reply_message reply) (short_reply is)).1 is
+
+  module _ (longer : (set : ParamSet) → IsSet set → IsBuilt set → frame_len_of Query set < limit) (query : CipherBody) where
+    short_query : {x : List ℕ} → IsOne 2 x (query_message query) → length (frame_of (query_message query)) < limit
+    short_query is =
+        let fits = is.spells.fits.1 in
+        omega (arith, longer query.set fits.known is.spells.fits.0, length-append (header 2 query.set (query_len query.set)) (cipher_bytes query.ciphers), length-cipher_bytes query fits)
+
+    pub query_of_file : IsOne 2 bytes (query_message query) → IsOne 2 content (query_message query)
+    query_of_file is = (front_of 2 (query_message query) (short_query is)).0 is
+
+    pub query_of_front : IsOne 2 content (query_message query) → IsOne 2 bytes (query_message query)
+    query_of_front is = (front_of 2 (query_message query) (short_query is)).1 is

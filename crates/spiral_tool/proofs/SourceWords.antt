@@ -8,7 +8,7 @@ use Rattle.std.proofs.lemmas.List.FromFn.{map-range_with_len_more}
 use Rattle.negacyclic.specs.Digits.{number_of}
 use Rattle.pir_io.specs.Files.{FilesSeen, content_of}
 use Rattle.spiral_model.specs.Sampling.{seeded_words}
-use Rattle.spiral_tool.specs.Reading.{ReadsFront}
+use Rattle.pir_io.specs.Reading.{ReadsFront}
 use Rattle.spiral_tool.specs.Sources.{WordSource, words_in, seed_in, source_name, words_written, words_given, ReadsWords}
 
 -- the word of the bytes from 8k on

@@ -2,13 +2,14 @@
 use Rattle.std.proofs.Common.{ℕ, List, ◌++◌, drop, Option, Some, None, Result, Ok, Err, IfOk, IfSome, IfNone, refl, sym, ◌∙◌, ap, subst}
 use Rattle.spiral_model.specs.declared.param_set.ParamSet.{ParamSet}
 use Rattle.spiral_model.specs.Sets.{IsBuilt}
-use Rattle.spiral_model.specs.Counts.{state_len, reply_len}
+use Rattle.spiral_model.specs.Counts.{state_len, reply_len, query_len}
 use Rattle.spiral_model.specs.Switched.{QueryState, SwitchedReply}
-use Rattle.spiral_model.specs.Frames.{header, state_body, reply_body, IsOne, state_message, reply_message}
+use Rattle.spiral_model.specs.Queries.{CipherBody}
+use Rattle.spiral_model.specs.Frames.{header, cipher_bytes, state_body, reply_body, IsOne, query_message, state_message, reply_message}
 use Rattle.spiral_model.proofs.FrameLaws.{same_front}
-use Rattle.spiral_tool.specs.declared.header.Kind.TheVariants.{Reply, State}
+use Rattle.spiral_tool.specs.declared.header.Kind.TheVariants.{Query, Reply, State}
 use Rattle.spiral_tool.specs.Headers.{BeginsWith}
-use Rattle.spiral_tool.specs.Bodies.{IsStateBody, IsReplyBody}
+use Rattle.spiral_tool.specs.Bodies.{IsStateBody, IsReplyBody, IsQueryBody}
 
 -- what a call says of what it found, said in other words
 pub found_then : {X E : Type 0} {P Q : X → Type 0} (r : Result (Option X) E) → IfOk r (λ found. IfSome found P) → ((x : X) → P x → Q x) → IfOk r (λ found. IfSome found Q)
@@ -51,4 +52,20 @@ module _ (bytes : List ℕ) (set : ParamSet) (start : ℕ) (reply : SwitchedRepl
   body_of_reply is =
       let fits = is.spells.fits.1 in
       let parts = same_front 3 reply_len reply.set set (reply_body reply) (drop start bytes) fits.known begins.known (sym is.spells.spelled ∙ begins.front) in
+      record { set_is = parts.0; kept = fits; spelled = sym parts.1 }
+
+module _ (bytes : List ℕ) (set : ParamSet) (start : ℕ) (query : CipherBody) (begins : BeginsWith Query bytes set start) where
+  pub query_of_body : IsQueryBody set (drop start bytes) query → IsOne 2 bytes (query_message query)
+  query_of_body is = record {
+    kind_is = refl;
+    spells = record {
+      fits = (subst IsBuilt (sym is.set_is) begins.built, is.kept);
+      spelled = begins.front ∙ ap (λ (s : ParamSet). header 2 s (query_len s) ++ drop start bytes) (sym is.set_is) ∙ ap (λ (body : List ℕ). header 2 query.set (query_len query.set) ++ body) is.spelled;
+    };
+  }
+
+  pub body_of_query : IsOne 2 bytes (query_message query) → IsQueryBody set (drop start bytes) query
+  body_of_query is =
+      let fits = is.spells.fits.1 in
+      let parts = same_front 2 query_len query.set set (cipher_bytes query.ciphers) (drop start bytes) fits.known begins.known (sym is.spells.spelled ∙ begins.front) in
       record { set_is = parts.0; kept = fits; spelled = sym parts.1 }

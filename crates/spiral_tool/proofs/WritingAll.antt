@@ -12,7 +12,7 @@ use Rattle.spiral_tool.specs.declared.status.Status.{Status}
 use Rattle.spiral_tool.specs.declared.status.Status.TheVariants as status
 use Rattle.spiral_tool.specs.Texts.{file_fault_line}
 use Rattle.spiral_tool.specs.Puts.{Finishes, Refused}
-use Rattle.spiral_tool.specs.Reading.{WritesFile}
+use Rattle.pir_io.specs.Reading.{WritesFile}
 use Rattle.spiral_tool.specs.Outputs.{Output, output_seen, outputs_seen, Wrote, WroteAll, StoppedAt, StoppedIn, LastFailedWrote, FailedIn, WritesOutputs, OutputsEnd}
 use Rattle.spiral_tool.proofs.Kept.{still_told, rose_before}
 
@@ -146,6 +146,7 @@ module _ (old new : FilesSeen) (so sn : SinkSeen) (first : Output) (outputs want
   line_put line status.BadFrame all put = absurd put
   line_put line status.WrongSet all put = absurd put
   line_put line status.Absent all put = absurd put
+  line_put line status.BadRecords all put = absurd put
 
   -- all were written
   pub outputs_written : {T : Type 0} {t : T} (text line : List ℕ) (ended : Status) → text ≡ line → WritesOutputs old new (first ∷ outputs) (Ok t) → Finishes so sn text ended → OutputsEnd old new so sn wanted line ended

@@ -11,10 +11,10 @@ use Rattle.spiral_model.specs.Queries.{state_of, query_body_of}
 use Rattle.spiral_model.specs.Frames.{frame_of, state_message, query_message}
 use Rattle.pir_client.specs.declared.asking.Asked.{Asked}
 use Rattle.spiral_tool.specs.declared.status.Status.{Status}
-use Rattle.spiral_tool.specs.declared.status.Status.TheVariants.{Done, NoMemory, Usage, UnknownSet, IndexRange, WordsShort, FileFault, BadFrame, WrongSet, Absent, SinkFault}
+use Rattle.spiral_tool.specs.declared.status.Status.TheVariants.{Done, NoMemory, Usage, UnknownSet, IndexRange, WordsShort, FileFault, BadFrame, WrongSet, Absent, BadRecords, SinkFault}
 use Rattle.spiral_tool.specs.Texts.{unknown_set_line, index_range_line, words_short_line, query_line, file_fault_line}
 use Rattle.spiral_tool.specs.Puts.{GotNothing, GotLine, GotPrefix, GotRefusal}
-use Rattle.spiral_tool.specs.Reading.{FailedReading}
+use Rattle.pir_io.specs.Reading.{FailedReading}
 use Rattle.spiral_tool.specs.Sources.{source_name, words_given}
 use Rattle.spiral_tool.specs.Words.{AskWords}
 use Rattle.spiral_tool.specs.Outputs.{Output, WroteAll, StoppedIn, FailedIn}
@@ -107,6 +107,7 @@ AskEnds old new sink_old sink_new ask Usage = ⊥
 AskEnds old new sink_old sink_new ask BadFrame = ⊥
 AskEnds old new sink_old sink_new ask WrongSet = ⊥
 AskEnds old new sink_old sink_new ask Absent = ⊥
+AskEnds old new sink_old sink_new ask BadRecords = ⊥
 
 -- What `ask` does. All reading comes before the first file is created; names other than STATE, SETUP and QUERY never
 -- change, as each case tells. Where memory wasn't wanting, an unknown set and an index out of range are answered

@@ -2,7 +2,8 @@
 use Rattle.std.specs.Prelude.{ℕ, List, ◌≡◌}
 use Rattle.spiral_model.specs.declared.param_set.ParamSet.{ParamSet}
 use Rattle.spiral_model.specs.Switched.{QueryState, IsState, SwitchedReply, IsReply}
-use Rattle.spiral_model.specs.Frames.{state_body, reply_body}
+use Rattle.spiral_model.specs.Queries.{CipherBody, IsQuery}
+use Rattle.spiral_model.specs.Frames.{state_body, reply_body, cipher_bytes}
 
 -- the bytes are the body of the frame of this state, of that set
 pub record IsStateBody (set : ParamSet) (bytes : List ℕ) (state : QueryState) : Type 0 where
@@ -21,3 +22,12 @@ pub record IsReplyBody (set : ParamSet) (bytes : List ℕ) (reply : SwitchedRepl
 
 abbrev pub NoReplyBody : ParamSet → List ℕ → Type 0
 NoReplyBody set bytes = (reply : SwitchedReply) → IsReplyBody set bytes reply → ⊥
+
+-- the bytes are the body of the frame of this query, of that set
+pub record IsQueryBody (set : ParamSet) (bytes : List ℕ) (query : CipherBody) : Type 0 where
+  pub set_is : query.set ≡ set
+  pub kept : IsQuery query
+  pub spelled : bytes ≡ cipher_bytes query.ciphers
+
+abbrev pub NoQueryBody : ParamSet → List ℕ → Type 0
+NoQueryBody set bytes = (query : CipherBody) → IsQueryBody set bytes query → ⊥

@@ -2,17 +2,19 @@
 use Rattle.std.specs.Prelude.{ℕ, List, ◌+◌, ◌++◌, ◌≡◌, ◌≤◌, length, drop}
 use Rattle.spiral_model.specs.declared.param_set.ParamSet.{ParamSet}
 use Rattle.spiral_model.specs.Sets.{IsSet, IsBuilt}
-use Rattle.spiral_model.specs.Counts.{state_len, reply_len}
+use Rattle.spiral_model.specs.Counts.{state_len, reply_len, query_len}
 use Rattle.spiral_model.specs.Frames.{header}
 use Rattle.spiral_tool.specs.declared.header.Kind.{Kind}
-use Rattle.spiral_tool.specs.declared.header.Kind.TheVariants.{Reply, State}
+use Rattle.spiral_tool.specs.declared.header.Kind.TheVariants.{Query, Reply, State}
 
 abbrev pub kind_code : Kind → ℕ
+kind_code Query = 2
 kind_code Reply = 3
 kind_code State = 5
 
 -- how many bytes the body of such a frame has
 abbrev pub body_len_of : Kind → ParamSet → ℕ
+body_len_of Query set = query_len set
 body_len_of Reply set = reply_len set
 body_len_of State set = state_len set
 

@@ -6,10 +6,13 @@ pub mod Inputs
 pub mod Headers
 pub mod Bodies
 pub mod Polys
+pub mod Pieces
 pub mod Reading
 pub mod Outputs
 pub mod Record
 pub mod Open
 pub mod Ask
+pub mod Prepare
+pub mod Answer
 pub mod Run
 pub mod Sources

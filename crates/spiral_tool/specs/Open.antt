@@ -6,12 +6,12 @@ use Rattle.pir_io.specs.Files.{FilesSeen, Keeps, KeepsOthers}
 use Rattle.pir_io.specs.Sink.{SinkSeen}
 use Rattle.spiral_model.specs.Switched.{QueryState, SwitchedReply, open_bytes}
 use Rattle.spiral_tool.specs.declared.status.Status.{Status}
-use Rattle.spiral_tool.specs.declared.status.Status.TheVariants.{Done, NoMemory, Usage, UnknownSet, IndexRange, WordsShort, FileFault, BadFrame, WrongSet, Absent, SinkFault}
+use Rattle.spiral_tool.specs.declared.status.Status.TheVariants.{Done, NoMemory, Usage, UnknownSet, IndexRange, WordsShort, FileFault, BadFrame, WrongSet, Absent, BadRecords, SinkFault}
 use Rattle.spiral_model.specs.Sets.{name_of}
 use Rattle.spiral_tool.specs.Texts.{record_line, wrong_set_line, absent_line, file_fault_line}
 use Rattle.spiral_tool.specs.Puts.{GotNothing, GotLine, GotPrefix, GotRefusal}
 use Rattle.spiral_tool.specs.Inputs.{StateIn, ReplyIn, NoStateIn, NoReplyIn}
-use Rattle.spiral_tool.specs.Reading.{FailedReading, FailedWriting}
+use Rattle.pir_io.specs.Reading.{FailedReading, FailedWriting}
 
 -- STATE is one State frame and REPLY is one Reply frame, of these messages
 pub record BothIn (files : FilesSeen) (state_name reply_name : List ℕ) (state : QueryState) (reply : SwitchedReply) : Type 0 where
@@ -78,6 +78,7 @@ OpenEnds old new sink_old sink_new state_name reply_name out_name Usage = ⊥
 OpenEnds old new sink_old sink_new state_name reply_name out_name UnknownSet = ⊥
 OpenEnds old new sink_old sink_new state_name reply_name out_name IndexRange = ⊥
 OpenEnds old new sink_old sink_new state_name reply_name out_name WordsShort = ⊥
+OpenEnds old new sink_old sink_new state_name reply_name out_name BadRecords = ⊥
 
 -- What `open` does. Names other than OUT never change. Where neither memory was wanting nor a file failed, a bad
 -- frame, a reply of another set and an absent record are answered exactly where they are.

@@ -10,7 +10,7 @@ use Rattle.spiral_tool.specs.declared.status.Status.{Status}
 use Rattle.spiral_tool.specs.declared.status.Status.TheVariants as status
 use Rattle.spiral_tool.specs.Texts.{file_fault_line}
 use Rattle.spiral_tool.specs.Puts.{GotNothing, GotLine, GotPrefix, GotRefusal}
-use Rattle.spiral_tool.specs.Reading.{HoldsPrefix}
+use Rattle.pir_io.specs.Reading.{HoldsPrefix}
 
 -- a name and the bytes that it is to hold
 pub record Output : Type 0 where
@@ -75,3 +75,4 @@ OutputsEnd old new sink_old sink_new outputs text status.WordsShort = ⊥
 OutputsEnd old new sink_old sink_new outputs text status.BadFrame = ⊥
 OutputsEnd old new sink_old sink_new outputs text status.WrongSet = ⊥
 OutputsEnd old new sink_old sink_new outputs text status.Absent = ⊥
+OutputsEnd old new sink_old sink_new outputs text status.BadRecords = ⊥

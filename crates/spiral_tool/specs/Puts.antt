@@ -3,7 +3,7 @@ use Rattle.std.specs.Prelude.{ℕ, List, ◌++◌, ◌≡◌, ◌⊎◌, IsTrue,
 use Rattle.pir_io.specs.Faults.{Rose}
 use Rattle.pir_io.specs.Sink.{SinkSeen}
 use Rattle.spiral_tool.specs.declared.status.Status.{Status}
-use Rattle.spiral_tool.specs.declared.status.Status.TheVariants.{Done, NoMemory, Usage, UnknownSet, IndexRange, WordsShort, FileFault, BadFrame, WrongSet, Absent, SinkFault}
+use Rattle.spiral_tool.specs.declared.status.Status.TheVariants.{Done, NoMemory, Usage, UnknownSet, IndexRange, WordsShort, FileFault, BadFrame, WrongSet, Absent, BadRecords, SinkFault}
 
 -- nothing
 abbrev pub GotNothing : SinkSeen → SinkSeen → Type 0
@@ -35,6 +35,7 @@ Finishes old new text FileFault = ⊥
 Finishes old new text BadFrame = ⊥
 Finishes old new text WrongSet = ⊥
 Finishes old new text Absent = ⊥
+Finishes old new text BadRecords = ⊥
 
 -- the line of a refusal with a status of its own; where memory was wanting for the line, that is the status
 abbrev pub Refused : SinkSeen → SinkSeen → Status → List ℕ → Status → Type 0

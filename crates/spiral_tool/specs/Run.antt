@@ -7,9 +7,11 @@ use Rattle.spiral_tool.specs.declared.status.Status.TheVariants.{NoMemory, Usage
 use Rattle.spiral_tool.specs.Texts.{usage_line}
 use Rattle.spiral_tool.specs.Puts.{GotNothing, GotRefusal}
 use Rattle.spiral_tool.specs.Statuses.{number_of_status}
-use Rattle.spiral_tool.specs.Words.{Asked, asks_open, asks_ask, words_of, InForm, FitNone}
+use Rattle.spiral_tool.specs.Words.{Asked, asks_open, asks_ask, asks_prepare, asks_answer, words_of, InForm, FitNone}
 use Rattle.spiral_tool.specs.Open.{Opens}
 use Rattle.spiral_tool.specs.Ask.{AsksFor}
+use Rattle.spiral_tool.specs.Prepare.{PreparesFor}
+use Rattle.spiral_tool.specs.Answer.{AnswersFor}
 
 -- Words of no command's form: every file is as it was, and the status is Usage with its line, or memory was wanting.
 pub record Refuses (old new : FilesSeen) (sink_old sink_new : SinkSeen) (status : Status) : Type 0 where
@@ -20,6 +22,8 @@ pub record Refuses (old new : FilesSeen) (sink_old sink_new : SinkSeen) (status 
 abbrev pub Does : FilesSeen → FilesSeen → SinkSeen → SinkSeen → Asked → Status → Type 0
 Does old new sink_old sink_new (asks_open state reply out) status = Opens old new sink_old sink_new state reply out status
 Does old new sink_old sink_new (asks_ask ask) status = AsksFor old new sink_old sink_new ask status
+Does old new sink_old sink_new (asks_prepare prepare) status = PreparesFor old new sink_old sink_new prepare status
+Does old new sink_old sink_new (asks_answer answer) status = AnswersFor old new sink_old sink_new answer status
 
 -- something asked in form, whose words these are, was done
 pub record DoesAsked (old new : FilesSeen) (sink_old sink_new : SinkSeen) (words : List (List ℕ)) (status : Status) : Type 0 where

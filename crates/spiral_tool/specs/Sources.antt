@@ -8,7 +8,7 @@ use Rattle.pir_io.specs.Files.{FilesSeen, content_of}
 use Rattle.spiral_model.specs.Sampling.{seeded_words}
 use Rattle.spiral_tool.specs.declared.source.Source.{Source}
 use Rattle.spiral_tool.specs.declared.source.Source.TheVariants.{Words, Seed}
-use Rattle.spiral_tool.specs.Reading.{OnlyRead, FailedReading}
+use Rattle.pir_io.specs.Reading.{OnlyRead, FailedReading}
 
 -- `words:FILE` or `seed:FILE`
 pub data WordSource : Type 0 where

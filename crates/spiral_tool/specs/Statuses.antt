@@ -1,7 +1,7 @@
 -- The numbers of the statuses.
 use Rattle.std.specs.Prelude.{ℕ}
 use Rattle.spiral_tool.specs.declared.status.Status.{Status}
-use Rattle.spiral_tool.specs.declared.status.Status.TheVariants.{Done, NoMemory, Usage, UnknownSet, IndexRange, WordsShort, FileFault, BadFrame, WrongSet, Absent, SinkFault}
+use Rattle.spiral_tool.specs.declared.status.Status.TheVariants.{Done, NoMemory, Usage, UnknownSet, IndexRange, WordsShort, FileFault, BadFrame, WrongSet, Absent, BadRecords, SinkFault}
 
 abbrev pub number_of_status : Status → ℕ
 number_of_status Done = 0
@@ -14,4 +14,5 @@ number_of_status FileFault = 7
 number_of_status BadFrame = 9
 number_of_status WrongSet = 10
 number_of_status Absent = 11
+number_of_status BadRecords = 13
 number_of_status SinkFault = 14

@@ -41,3 +41,22 @@ words_short_line needed held = codes "words short: need " ++ (decimal needed ++ 
 abbrev pub query_line : List ℕ → ℕ → ℕ → List ℕ
 query_line set setup query =
     codes "query " ++ (set ++ (codes " setup " ++ (decimal setup ++ (codes " bytes query " ++ (decimal query ++ line (codes " bytes"))))))
+
+-- bytes are not a database's records: a code says why, of records of so many bytes, with the number that it compares
+abbrev pub bad_records_line : ℕ → ℕ → ℕ → List ℕ
+bad_records_line code len number =
+    codes "bad records: code " ++ (decimal code ++ (codes ", length " ++ (decimal len ++ (codes ", number " ++ (decimal number ++ 10 ∷ [])))))
+
+-- a database of that set was written, of so many records of so many bytes
+abbrev pub database_line : List ℕ → ℕ → ℕ → List ℕ
+database_line set count len =
+    codes "database " ++ (set ++ (codes " " ++ (decimal count ++ (codes " records of " ++ (decimal len ++ line (codes " bytes"))))))
+
+-- an input, counted from 1, isn't the frame that is expected: a code says why, and where
+abbrev pub bad_frame_line : ℕ → ℕ → ℕ → List ℕ
+bad_frame_line input code place =
+    codes "bad frame: input " ++ (decimal input ++ (codes ", code " ++ (decimal code ++ (codes ", place " ++ (decimal place ++ 10 ∷ [])))))
+
+-- a reply of that set was written, of so many bytes
+abbrev pub reply_line : List ℕ → ℕ → List ℕ
+reply_line set len = codes "reply " ++ (set ++ (codes " " ++ (decimal len ++ line (codes " bytes"))))

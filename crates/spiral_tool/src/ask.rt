@@ -8,7 +8,8 @@ ghost use Rattle.spiral_tool.specs.Outputs.{OutputsEnd};
 ghost use Rattle.spiral_tool.specs.Ask.{AsksFor, Names, NamesNone, asked_outputs};
 
 use crate::output::{
-    Output, finish, index_range_text, query_text, refuse, words_short_text, write_outputs,
+    FILE_FAULT, Output, finish, index_range_text, query_text, refuse, words_short_text,
+    write_outputs,
 };
 use crate::source::read_words;
 use crate::status::Status;
@@ -20,8 +21,6 @@ use pir_io::{Files, IoFault, Sink};
 use pir_wire::encode_state;
 use spiral_model::{ParamSet, set_named};
 use std::alloc::Global;
-
-const FILE_FAULT: &[u8] = b"file fault\n";
 
 /// Makes a query for an index from random words, and writes the state, the setup and the query to three files.
 pub fn ask_files<F: Files, O: Sink>(
@@ -56,7 +55,7 @@ pub fn ask_files<F: Files, O: Sink>(
 }
 
 // The set of that name that this program handles; `None` exactly where there is none.
-fn built_set(name: &str) -> Option<ParamSet>
+pub fn built_set(name: &str) -> Option<ParamSet>
     ensures known { IfSome result IsSet }
     ensures found { IfSome result (Names name.now) }
     ensures none { IfNone result (NamesNone name.now) }

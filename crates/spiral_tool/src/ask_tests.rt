@@ -34,7 +34,7 @@ fn state_frame(alloc: Global) -> Result<Vec<u8>, AllocError> {
 // The Query frame of index 0: each row is its message, so all is 0 but Delta = floor(q / 256), the bytes 00df1e20f1ed00,
 // at place 0 of row 1 of the first ciphertext, behind 23 bytes of header and 256 residues of 7 bytes, and of row 2 of the
 // second one, 1024 residues further.
-fn query_frame(alloc: Global) -> Result<Vec<u8>, AllocError> {
+pub(crate) fn query_frame(alloc: Global) -> Result<Vec<u8>, AllocError> {
     let mut bytes = b"SPIR\x01\x02\x08edge-256\0\x4c\x02\0\0\0\0\0".to_vec(alloc)?;
     bytes.resize(1815, 0)?;
     bytes.extend_from_slice(b"\x00\xdf\x1e\x20\xf1\xed\x00")?;

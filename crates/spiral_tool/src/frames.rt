@@ -1,21 +1,35 @@
 ghost use Rattle.std.specs.Prelude.{IfOk, IfSome, IfNone};
 ghost use Rattle.spiral_model.specs.Sets.{IsSet, IsBuilt};
+ghost use Rattle.spiral_model.specs.Queries.{CipherBody, IsQuery};
 ghost use Rattle.spiral_model.specs.Switched.{QueryState, SwitchedReply};
-ghost use Rattle.spiral_model.specs.Frames.{IsOne, state_message, reply_message};
-ghost use Rattle.spiral_tool.specs.Inputs.{StateIn, NoStateIn, ReplyIn, NoReplyIn};
+ghost use Rattle.spiral_model.specs.Frames.{IsOne, query_message, state_message, reply_message};
+ghost use Rattle.spiral_tool.specs.Inputs.{QueryIn, NoQueryIn, StateIn, NoStateIn, ReplyIn, NoReplyIn};
 ghost use Rattle.spiral_tool.specs.Reading.{ReadsMessage};
 
 use crate::header::{Kind, read_header, reading_limit};
 use crate::input::{InputError, read_front};
+use crate::query_frame::query_from_body;
 use crate::reply_frame::reply_from_body;
 use crate::state_frame::state_from_body;
 use modulus_switch::{ClientState, Reply};
 use no_memory::NoMemory;
 use pir_io::{Files, IoFault};
+use regev_code::QueryBody;
 use std::alloc::Global;
 
 #[cfg(test)]
 mod tests;
+
+/// The query that the bytes spell as one Query frame; `None` exactly where they spell none.
+fn query_of(alloc: Global, bytes: &[u8]) -> Result<Option<QueryBody>, NoMemory>
+    ensures found { IfOk result (λ found. IfSome found (λ query. IsOne 2 bytes.now (query_message query))) }
+    ensures none { IfOk result (λ found. IfNone found ((query : CipherBody) → IsOne 2 bytes.now (query_message query) → ⊥)) }
+{
+    match read_header(alloc, Kind::Query, bytes)? {
+        Some((set, start)) => query_from_body(alloc, &set, &bytes[start..]),
+        None => Ok(None),
+    }
+}
 
 /// The state that the bytes spell as one State frame; `None` exactly where they spell none.
 fn state_of(alloc: Global, bytes: &[u8]) -> Result<Option<ClientState>, NoMemory>
@@ -36,6 +50,28 @@ fn reply_of(alloc: Global, bytes: &[u8]) -> Result<Option<Reply>, NoMemory>
     match read_header(alloc, Kind::Reply, bytes)? {
         Some((set, start)) => reply_from_body(alloc, &set, &bytes[start..]),
         None => Ok(None),
+    }
+}
+
+/// Reads a file that is to be one Query frame.
+pub fn read_query<F: Files>(
+    alloc: Global,
+    files: &mut F,
+    name: &str,
+) -> Result<QueryBody, InputError>
+    ensures reads { ReadsMessage (QueryIn (F.seen files.old) name.now) (NoQueryIn (F.seen files.old) name.now) (F.seen files.old) (F.seen files.new) name.now result }
+    ensures built { IfOk result (λ query. IsSet query.set × IsBuilt query.set) }
+    ensures kept { IfOk result IsQuery }
+{
+    let bytes = match read_front(alloc, files, name, reading_limit(Kind::Query)) {
+        Ok(bytes) => bytes,
+        Err(IoFault::Failed) => return Err(InputError::File),
+        Err(IoFault::NoMemory) => return Err(InputError::NoMemory),
+    };
+    match query_of(alloc, &bytes) {
+        Ok(Some(query)) => Ok(query),
+        Ok(None) => Err(InputError::Frame),
+        Err(NoMemory) => Err(InputError::NoMemory),
     }
 }
 

@@ -14,6 +14,8 @@ const SETS_COUNT: usize = 10;
 /// The kinds of frames that the program reads.
 #[derive(Clone, Copy, Debug, PartialEq, Eq)]
 pub enum Kind {
+    /// A query of a client.
+    Query,
     /// A reply of the server.
     Reply,
     /// What a client keeps of its query.
@@ -26,6 +28,7 @@ impl Kind {
         ensures { result ≡ kind_code self }
     {
         match self {
+            Kind::Query => 2,
             Kind::Reply => 3,
             Kind::State => 5,
         }
@@ -37,6 +40,7 @@ impl Kind {
         ensures { result ≡ body_len_of self set.now }
     {
         match self {
+            Kind::Query => set.query_len(),
             Kind::Reply => set.reply_len(),
             Kind::State => 8 + u64::from(set.n) * u64::from(set.degree),
         }
@@ -116,7 +120,7 @@ pub fn read_header(
 fn frame_len(kind: Kind, set: &ParamSet) -> usize
     requires { IsSet set.now }
     ensures value { IsBuilt set.now → result ≡ frame_len_of kind set.now }
-    ensures most { result ≤ 110000 }
+    ensures most { result ≤ 8601630 }
 {
     if !set.built() {
         return 0;

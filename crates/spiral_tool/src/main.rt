@@ -1,12 +1,15 @@
 //! The program: private information retrieval by commands over files.
 #![tactic(auto)]
 
+mod answer;
 mod ask;
 mod frames;
 mod header;
 mod input;
 mod open;
 mod output;
+mod prepare;
+mod query_frame;
 mod reply_frame;
 mod run;
 mod source;
@@ -50,7 +53,11 @@ fn main(rt: HostRuntime) -> ExitCode {
 }
 
 #[cfg(test)]
+mod answer_tests;
+#[cfg(test)]
 mod ask_tests;
+#[cfg(test)]
+mod prepare_tests;
 #[cfg(test)]
 mod source_tests;
 #[cfg(test)]

@@ -1,20 +1,18 @@
 ghost use Rattle.std.specs.Prelude.{◌≡◌, ◌<◌};
 ghost use Rattle.spiral_model.specs.Sets.{IsSet, name_of};
-ghost use Rattle.spiral_tool.specs.Texts.{absent_line, wrong_set_line};
+ghost use Rattle.spiral_tool.specs.Texts.{record_line, absent_line, wrong_set_line};
 ghost use Rattle.spiral_tool.specs.Puts.{Refused};
-ghost use Rattle.spiral_tool.specs.Record.{InputRefused, WritesRecord};
+ghost use Rattle.spiral_tool.specs.Record.{InputRefused, EndsWithFile};
 ghost use Rattle.spiral_tool.specs.Open.{Opens};
 
 use crate::frames::{read_reply, read_state};
 use crate::input::InputError;
-use crate::output::{absent_text, finish, record_text, refuse, write_file, wrong_set_text};
+use crate::output::{FILE_FAULT, absent_text, finish, record_text, refuse, wrong_set_text};
 use crate::status::Status;
 use pir_client::{OpenError, open};
-use pir_io::{Files, IoFault, Sink};
+use pir_io::{Files, IoFault, Sink, write_file};
 use spiral_model::ParamSet;
 use std::alloc::Global;
-
-const FILE_FAULT: &[u8] = b"file fault\n";
 
 /// Opens the reply in one file by the state in another and writes the record to a third.
 pub fn open_files<F: Files, O: Sink>(
@@ -46,7 +44,7 @@ pub fn open_files<F: Files, O: Sink>(
 }
 
 // Ends a command whose input gave no message.
-fn refuse_input<O: Sink>(sink: &mut O, error: InputError) -> Status
+pub fn refuse_input<O: Sink>(sink: &mut O, error: InputError) -> Status
     ensures { InputRefused (O.seen sink.old) (O.seen sink.new) error result }
 {
     match error {
@@ -56,8 +54,13 @@ fn refuse_input<O: Sink>(sink: &mut O, error: InputError) -> Status
     }
 }
 
-// Ends a command whose reply is of another set than its state.
-fn refuse_set<O: Sink>(alloc: Global, sink: &mut O, expected: &ParamSet, found: &ParamSet) -> Status
+// Ends a command with a message of another set than an earlier one.
+pub fn refuse_set<O: Sink>(
+    alloc: Global,
+    sink: &mut O,
+    expected: &ParamSet,
+    found: &ParamSet,
+) -> Status
     requires expected { IsSet expected.now }
     requires found { IsSet found.now }
     ensures { Refused (O.seen sink.old) (O.seen sink.new) Status.WrongSet (wrong_set_line (name_of expected.now) (name_of found.now)) result }
@@ -87,7 +90,7 @@ fn write_record<F: Files, O: Sink>(
     length: u32,
     out: &str,
 ) -> Status
-    ensures { WritesRecord (F.seen files.old) (F.seen files.new) (O.seen sink.old) (O.seen sink.new) record_bytes.now length out.now result }
+    ensures { EndsWithFile (F.seen files.old) (F.seen files.new) (O.seen sink.old) (O.seen sink.new) out.now record_bytes.now (record_line length) result }
 {
     let Ok(text) = record_text(alloc, length) else {
         return Status::NoMemory;

@@ -1,21 +1,14 @@
 ghost use Rattle.std.specs.Prelude.{◌≡◌, IfOk, string_bytes};
-ghost use Rattle.spiral_tool.specs.Reading.{WritesFile};
 ghost use Rattle.spiral_tool.specs.Puts.{Refused, Finishes};
-ghost use Rattle.spiral_tool.specs.Texts.{record_line, wrong_set_line, absent_line, index_range_line, words_short_line, query_line};
+ghost use Rattle.spiral_tool.specs.Texts.{record_line, wrong_set_line, absent_line, index_range_line, words_short_line, query_line, bad_records_line, database_line, bad_frame_line, reply_line};
 ghost use Rattle.spiral_tool.specs.Outputs.{WritesOutputs, outputs_seen};
 
 use crate::status::Status;
-use pir_io::{Files, IoFault, Sink};
+use pir_io::{Files, IoFault, Sink, write_file};
 use std::alloc::{AllocError, Global};
 
-/// Gives a file these bytes and no others.
-pub fn write_file<F: Files>(files: &mut F, name: &str, bytes: &[u8]) -> Result<(), IoFault>
-    ensures { WritesFile (F.seen files.old) (F.seen files.new) name.now bytes.now result }
-{
-    files.create(name)?;
-    files.append(name, bytes)?;
-    Ok(())
-}
+/// The line of a command whose file couldn't be read or written.
+pub const FILE_FAULT: &[u8] = b"file fault\n";
 
 /// A file that a command writes: its name and the bytes that it is to hold.
 #[derive(Clone, Copy, Debug)]
@@ -101,4 +94,42 @@ pub fn query_text(
     ensures { IfOk result (λ text. string_bytes text ≡ query_line set.now setup query) }
 {
     format!(in alloc; "query {set} setup {setup} bytes query {query} bytes\n")
+}
+
+/// The line that says why bytes are not the records of a database: by a code, the length of a record, and a number.
+pub fn bad_records_text(
+    alloc: Global,
+    code: u8,
+    length: u32,
+    number: u64,
+) -> Result<String, AllocError>
+    ensures { IfOk result (λ text. string_bytes text ≡ bad_records_line code length number) }
+{
+    format!(in alloc; "bad records: code {code}, length {length}, number {number}\n")
+}
+
+/// The line that says of which set the database is, and how many records of which length it has.
+pub fn database_text(
+    alloc: Global,
+    set: &str,
+    count: u32,
+    length: u32,
+) -> Result<String, AllocError>
+    ensures { IfOk result (λ text. string_bytes text ≡ database_line set.now count length) }
+{
+    format!(in alloc; "database {set} {count} records of {length} bytes\n")
+}
+
+/// The line that says which input, counted from 1, isn't the frame that is expected there: by a code, and where.
+pub fn bad_frame_text(alloc: Global, input: u32, code: u8, place: u64) -> Result<String, AllocError>
+    ensures { IfOk result (λ text. string_bytes text ≡ bad_frame_line input code place) }
+{
+    format!(in alloc; "bad frame: input {input}, code {code}, place {place}\n")
+}
+
+/// The line that says of which set the reply is, and how long its file is.
+pub fn reply_text(alloc: Global, set: &str, length: usize) -> Result<String, AllocError>
+    ensures { IfOk result (λ text. string_bytes text ≡ reply_line set.now length) }
+{
+    format!(in alloc; "reply {set} {length} bytes\n")
 }

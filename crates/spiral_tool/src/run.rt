@@ -1,9 +1,11 @@
 ghost use Rattle.std.specs.Prelude.{◌≡◌, false, map, string_bytes};
 ghost use Rattle.spiral_tool.specs.Run.{Runs, Executes};
 
+use crate::answer::answer_files;
 use crate::ask::ask_files;
 use crate::open::open_files;
 use crate::output::refuse;
+use crate::prepare::prepare_files;
 use crate::status::Status;
 use crate::words::Command;
 use pir_io::{Files, Gate, Net, Sink};
@@ -13,23 +15,30 @@ use std::thread::Threads;
 /// The program: does what the words of a command line ask, on the files, the net and the sink that are handed
 /// in, and answers the status that the process ends with.
 pub fn run<R: Threads + Sync, F: Files, N: Net, G: Gate, O: Sink>(
-    _rt: &R,
+    rt: &R,
     alloc: Global,
     args: &[String],
     files: &mut F,
     net: &mut N,
-    _gate: &G,
+    gate: &G,
     out: &mut O,
 ) -> u8
     requires { (N.seen net.old).is_open ≡ false }
     ensures runs { Runs (F.seen files.old) (F.seen files.new) (O.seen out.old) (O.seen out.new) (map string_bytes args.now) result }
     ensures net_kept { N.seen net.new ≡ N.seen net.old }
 {
-    execute(alloc, args, files, out).number()
+    execute(rt, alloc, args, files, gate, out).number()
 }
 
 // The command that the words give, done.
-fn execute<F: Files, O: Sink>(alloc: Global, args: &[String], files: &mut F, out: &mut O) -> Status
+fn execute<R: Threads + Sync, F: Files, G: Gate, O: Sink>(
+    rt: &R,
+    alloc: Global,
+    args: &[String],
+    files: &mut F,
+    gate: &G,
+    out: &mut O,
+) -> Status
     ensures { Executes (F.seen files.old) (F.seen files.new) (O.seen out.old) (O.seen out.new) (map string_bytes args.now) result }
 {
     match Command::from_words(args) {
@@ -41,6 +50,8 @@ fn execute<F: Files, O: Sink>(alloc: Global, args: &[String], files: &mut F, out
             },
         ) => open_files(alloc, files, out, state, reply, record),
         Some(Command::Ask(ask)) => ask_files(alloc, files, out, &ask),
+        Some(Command::Prepare(prepare)) => prepare_files(alloc, files, out, &prepare),
+        Some(Command::Answer(answer)) => answer_files(rt, alloc, files, gate, out, &answer),
         None => refuse(out, b"usage\n", Status::Usage),
     }
 }

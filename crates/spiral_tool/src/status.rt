@@ -24,6 +24,8 @@ pub enum Status {
     WrongSet,
     /// The asked index isn't below the count of records.
     Absent,
+    /// The bytes of an input aren't the records of a database.
+    BadRecords,
     /// The line couldn't be put.
     SinkFault,
 }
@@ -44,6 +46,7 @@ impl Status {
             Status::BadFrame => 9,
             Status::WrongSet => 10,
             Status::Absent => 11,
+            Status::BadRecords => 13,
             Status::SinkFault => 14,
         }
     }

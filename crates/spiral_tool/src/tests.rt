@@ -22,7 +22,7 @@ fn state_frame(alloc: Global, index: u8) -> Result<Vec<u8>, AllocError> {
 
 // A Reply frame of 1 record of 1024 bytes: in each entry the number at place v is 4v + more, in 10 bits, four of
 // them in five bytes; row 0 is zero.
-fn reply_frame(alloc: Global, more: u8) -> Result<Vec<u8>, AllocError> {
+pub(crate) fn reply_frame(alloc: Global, more: u8) -> Result<Vec<u8>, AllocError> {
     let mut bytes = REPLY_HEADER.to_vec(alloc)?;
     bytes.extend_from_slice(&[1, 0, 0, 0, 0, 0, 0, 0, 0, 4, 0, 0, 0, 0, 0, 0])?;
     for _ in 0..4 {
@@ -39,7 +39,7 @@ fn reply_frame(alloc: Global, more: u8) -> Result<Vec<u8>, AllocError> {
 }
 
 // The bytes from `first` to 255 and those below it, four times.
-fn steps(alloc: Global, first: u8) -> Result<Vec<u8>, AllocError> {
+pub(crate) fn steps(alloc: Global, first: u8) -> Result<Vec<u8>, AllocError> {
     let mut bytes = Vec::new(alloc);
     for _ in 0..4 {
         for step in 0..=255u8 {

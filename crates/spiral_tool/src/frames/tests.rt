@@ -1,6 +1,7 @@
 ghost use Rattle.std.specs.Prelude.{◌<◌};
 
 use super::*;
+use pir_io::SoundFiles;
 use std::test::Fail;
 
 /// The header of a State frame of edge-256: the magic, version 1, kind 5, the name behind its length, and the
@@ -15,6 +16,38 @@ const REPLY_HEADER: [u8; 23] = [
     0x53, 0x50, 0x49, 0x52, 0x01, 0x03, 0x08, 0x65, 0x64, 0x67, 0x65, 0x2d, 0x32, 0x35, 0x36, 0x10,
     0x08, 0x00, 0x00, 0x00, 0x00, 0x00, 0x00,
 ];
+
+/// The header of a Query frame of edge-256: kind 2, and the body's length 150528, that of 28 ciphertexts of 3 rows
+/// of 256 residues of 7 bytes.
+const QUERY_HEADER: [u8; 23] = [
+    0x53, 0x50, 0x49, 0x52, 0x01, 0x02, 0x08, 0x65, 0x64, 0x67, 0x65, 0x2d, 0x32, 0x35, 0x36, 0x00,
+    0x4c, 0x02, 0x00, 0x00, 0x00, 0x00, 0x00,
+];
+
+/// The greatest residue, q - 1 = 66974689739603968.
+const GREATEST: [u8; 7] = [0x00, 0x00, 0xdf, 0x1e, 0x20, 0xf1, 0xed];
+
+/// q, which is no residue.
+const MODULUS: [u8; 7] = [0x01, 0x00, 0xdf, 0x1e, 0x20, 0xf1, 0xed];
+
+/// Appends zeros.
+fn push_zeros(bytes: &mut Vec<u8>, count: usize) -> Result<(), NoMemory> {
+    for _ in 0..count {
+        bytes.push(0)?;
+    }
+    Ok(())
+}
+
+/// A Query frame of edge-256: all residues are 0, but number 5 of row 1 of the ciphertext at place 3. Before it are
+/// 3 ciphertexts of 5376 bytes, a row of 1792 and 5 residues.
+fn query_frame(alloc: Global, residue: &[u8]) -> Result<Vec<u8>, NoMemory> {
+    let mut bytes = Vec::new(alloc);
+    bytes.extend_from_slice(&QUERY_HEADER)?;
+    push_zeros(&mut bytes, 17955)?;
+    bytes.extend_from_slice(residue)?;
+    push_zeros(&mut bytes, 132566)?;
+    Ok(bytes)
+}
 
 /// A State frame of edge-256: the index 2, and 512 zeros as the secret.
 fn state_frame(alloc: Global) -> Result<Vec<u8>, NoMemory> {
@@ -65,6 +98,48 @@ fn changed(alloc: Global, bytes: &[u8], place: usize, byte: u8) -> Result<Vec<u8
         *there = byte;
     }
     Ok(copy)
+}
+
+#[test]
+fn reads_a_query(rt: HostRuntime) -> Result<(), Fail> {
+    let alloc = rt.alloc();
+    let mut files = SoundFiles::new(alloc);
+    files.with("query", &query_frame(alloc, &GREATEST)?)?;
+    let Ok(query) = read_query(alloc, &mut files, "query") else {
+        return Ok(assert!(rt; false, "the file is no query"));
+    };
+    assert_eq!(rt; (query.set.name(), query.ciphers.len()), ("edge-256", 28));
+    let Some(cipher) = query.ciphers.get(3) else {
+        return Ok(assert!(rt; false, "there is no fourth ciphertext"));
+    };
+    assert_eq!(rt; cipher.polys.len(), 3);
+    for (r, poly) in cipher.polys.iter().enumerate() {
+        assert_eq!(rt; poly.coeffs().len(), 256);
+        for (k, residue) in poly.coeffs().iter().enumerate() {
+            let there = (r, k) == (1, 5);
+            assert_eq!(rt;
+                *residue,
+                if there { 66974689739603968 } else { 0 },
+                "residue {k} of row {r}"
+            );
+        }
+    }
+    Ok(())
+}
+
+#[test]
+fn refuses_other_queries(rt: HostRuntime) -> Result<(), Fail> {
+    let alloc = rt.alloc();
+    let large = query_frame(alloc, &MODULUS)?;
+    assert!(rt; query_of(alloc, &large)?.is_none(), "the residue q");
+    let mut bytes = query_frame(alloc, &GREATEST)?;
+    let reply = changed(alloc, &bytes, 5, 3)?;
+    assert!(rt; query_of(alloc, &reply)?.is_none(), "another kind");
+    bytes.push(0)?;
+    assert!(rt; query_of(alloc, &bytes)?.is_none(), "a byte more");
+    bytes.truncate(150550);
+    assert!(rt; query_of(alloc, &bytes)?.is_none(), "a byte less");
+    Ok(())
 }
 
 #[test]

@@ -1,7 +1,7 @@
 use Rattle.std.proofs.Common.{◌≡◌, ◌≤◌, ◌≢◌, length, get_or, arith, ⊎_elim}
 use Rattle.std.proofs.lemmas.Str.Pattern.{starts_char}
 use Rattle.spiral_tool.proofs.WordForms.{plus_is_none, zeros_are_none, parsed_is}
-use Rattle.spiral_tool.proofs.words.index_of.Goals as goal
+use Rattle.spiral_tool.proofs.words.plain_number.Goals as goal
 
 pub returns-then-starts_with : goal.returns-then-starts_with
 returns-then-starts_with c =

@@ -1,0 +1,71 @@
+-- Things that bytes spell one after the other, each in a piece of the same length.
+use Rattle.std.proofs.Common.{◌≡◌, ℕ, zero, suc, ◌+◌, ◌*◌, ◌<◌, List, [], ◌∷◌, ◌++◌, length, take, drop, All, refl, sym, ◌∙◌, ap, arith, length-append}
+use Rattle.std.specs.List.{flat_map}
+use Rattle.std.proofs.lemmas.List.{append-nil, take_at, drop_at, drop-drop, take_all}
+use Rattle.std.proofs.lemmas.List.Elements.{All-nil, All-head, All-tail, All-push}
+use Rattle.std.proofs.lemmas.Grind.{flat_map-append}
+use Rattle.std.proofs.Math.Seq.{take-add}
+use Rattle.spiral_tool.specs.Pieces.{AreSpelled}
+
+module _ {A : Type 0} (Fits : A → Type 0) (spell : A → List ℕ) (len : ℕ) where
+  -- ---- from the bytes to the things
+
+  pub spelled_none : (bytes : List ℕ) → AreSpelled Fits spell 0 (take (0 * len) bytes) []
+  spelled_none bytes =
+      let none : 0 * len ≡ 0 = omega arith in
+      record { many = refl; fit = All-nil Fits; spelled = sym (ap (λ (n : ℕ). take n bytes) none) }
+
+  -- the next piece spells one more
+  pub spelled_more : (k : ℕ) (bytes : List ℕ) (x : A) (xs out : List A) → AreSpelled Fits spell k (take (k * len) bytes) xs → Fits x
+      → spell x ≡ take len (drop (k * len) bytes) → out ≡ xs ++ x ∷ [] → AreSpelled Fits spell (k + 1) (take ((k + 1) * len) bytes) out
+  spelled_more k bytes x xs out before fits piece e =
+      let longer : (k + 1) * len ≡ k * len + len = omega arith in
+      let bytes_more : take ((k + 1) * len) bytes ≡ take (k * len) bytes ++ spell x =
+      ap (λ (n : ℕ). take n bytes) longer ∙ take-add (k * len) len bytes ∙ ap (λ (t : List ℕ). take (k * len) bytes ++ t) (sym piece) in
+      record {
+        many = omega (arith, ap length e, length-append xs (x ∷ []), before.many);
+        fit = rw e (All-push Fits xs x before.fit fits);
+        spelled =
+            ap (flat_map spell) e ∙ flat_map-append spell xs (x ∷ []) ∙ ap (λ (t : List ℕ). flat_map spell xs ++ t) (append-nil (spell x))
+            ∙ ap (λ (t : List ℕ). t ++ spell x) before.spelled ∙ sym bytes_more;
+      }
+
+  pub spelled_all : (k count : ℕ) (bytes : List ℕ) (xs : List A) → k ≡ count → length bytes ≡ count * len
+      → AreSpelled Fits spell k (take (k * len) bytes) xs → AreSpelled Fits spell count bytes xs
+  spelled_all k count bytes xs e room is = record {
+    many = is.many ∙ e;
+    fit = is.fit;
+    spelled = is.spelled ∙ ap (λ (n : ℕ). take (n * len) bytes) e ∙ take_all (count * len) bytes (omega arith);
+  }
+
+  -- ---- from the things to the bytes
+
+  module _ (each : (x : A) → Fits x → length (spell x) ≡ len) where
+    pub length-spelled : (xs : List A) → All Fits xs → length (flat_map spell xs) ≡ length xs * len
+    length-spelled [] fit = omega arith
+    length-spelled (x ∷ xs) fit =
+        omega (arith, length-append (spell x) (flat_map spell xs), each x (All-head Fits x xs fit), length-spelled xs (All-tail Fits x xs fit))
+
+    -- a piece that is that of no thing is in no bytes of things
+    none_there : (xs : List A) (i : ℕ) → All Fits xs → i < length xs
+        → ((x : A) → Fits x → spell x ≡ take len (drop (i * len) (flat_map spell xs)) → ⊥) → ⊥
+    none_there [] i fit lt none = absurd (omega arith)
+    none_there (x ∷ xs) zero fit lt none =
+        let first : Fits x = All-head Fits x xs fit in
+        let start : 0 * len ≡ 0 = omega arith in
+        let piece : take len (drop (0 * len) (spell x ++ flat_map spell xs)) ≡ spell x =
+        ap (λ (n : ℕ). take len (drop n (spell x ++ flat_map spell xs))) start ∙ take_at (spell x) (flat_map spell xs) len (each x first) in
+        none x first (sym piece)
+    none_there (x ∷ xs) (suc i) fit lt none =
+        let first : Fits x = All-head Fits x xs fit in
+        let start : suc i * len ≡ len + i * len = omega arith in
+        let behind : drop (suc i * len) (spell x ++ flat_map spell xs) ≡ drop (i * len) (flat_map spell xs) =
+        ap (λ (n : ℕ). drop n (spell x ++ flat_map spell xs)) start ∙ sym (drop-drop (i * len) len (spell x ++ flat_map spell xs))
+        ∙ ap (drop (i * len)) (drop_at (spell x) (flat_map spell xs) len (each x first)) in
+        none_there xs i (All-tail Fits x xs fit) (omega arith) (λ y fits e. none y fits (e ∙ ap (take len) (sym behind)))
+
+    pub none_spelled : (count i : ℕ) (bytes : List ℕ) (xs : List A) → i < count
+        → ((x : A) → Fits x → spell x ≡ take len (drop (i * len) bytes) → ⊥) → AreSpelled Fits spell count bytes xs → ⊥
+    none_spelled count i bytes xs lt none is =
+        none_there xs i is.fit (omega (arith, is.many))
+        (λ x fits e. none x fits (e ∙ ap (λ (b : List ℕ). take len (drop (i * len) b)) is.spelled))

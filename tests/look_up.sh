@@ -1,0 +1,125 @@
+#!/usr/bin/env bash
+# The commands `prepare` and `answer`, and whole look-ups through the four commands, on real files.
+. "$(dirname "$0")/checks.bash"
+
+# bytes HEX: these bytes; repeat HEX COUNT: these bytes so many times; hex FILE: a file's bytes as hexadecimal digits.
+bytes() { printf '%b' "$(printf '%s' "$1" | sed 's/../\\x&/g')"; }
+repeat() { bytes "$1" > unit; for ((k = 0; k < $2; k++)); do cat unit; done; }
+hex() { od -An -v -tx1 "$1" | tr -d ' \n'; }
+
+# is NAME WANTED GOT: the two are equal.
+is() { if [ "$2" = "$3" ]; then passed=$((passed + 1)); else failed=$((failed + 1)); echo "FAILED $1: wanted '$2', got '$3'"; fi; }
+
+# ---- databases
+
+front=53504952010608656467652d323536 # of a Database of edge-256, up to the body length
+bytes 0102030405060708 > eight
+expect "two records" 0 "database edge-256 2 records of 4 bytes" prepare edge-256 4 eight db
+is "the frame of two records" "${front}180000000000000002000000000000000400000000000000""0102030405060708" "$(hex db)"
+head -c 7 eight > seven; head -c 20 /dev/zero > twenty; : > empty
+expect "no whole records" 13 "bad records: code 10, length 4, number 7" prepare edge-256 4 seven no; absent "no whole records" no
+expect "too many records" 13 "bad records: code 9, length 4, number 4" prepare edge-256 4 twenty no; absent "too many records" no
+expect "too long records" 13 "bad records: code 8, length 1025, number 1024" prepare edge-256 1025 eight no; absent "too long records" no
+expect "records of no byte" 13 "bad records: code 8, length 0, number 1024" prepare edge-256 0 eight no; absent "records of no byte" no
+expect "no record" 0 "database edge-256 0 records of 4 bytes" prepare edge-256 4 empty none
+is "the frame of no record" "${front}100000000000000000000000000000000400000000000000" "$(hex none)"
+expect "a set that isn't known" 3 "unknown set" prepare nosuch 4 eight no
+expect "a set that isn't handled" 3 "unknown set" prepare tiny-spiral 4 eight no
+expect "a length past its range" 2 "usage" prepare edge-256 4294967296 eight no
+expect "a length with a leading zero" 2 "usage" prepare edge-256 04 eight no
+expect "no input" 7 "file fault" prepare edge-256 4 missing no; absent "no input" no
+expect "a bad length before a missing input" 13 "bad records: code 8, length 0, number 1024" prepare edge-256 0 missing no
+expect "a database that can't be written" 7 "file fault" prepare edge-256 4 eight missing/db
+cp eight both
+expect "the database in the input's place" 0 "database edge-256 2 records of 4 bytes" prepare edge-256 4 both both; same "the database in the input's place" both db
+"$program" prepare edge-256 4 eight full_out > /dev/full 2> stderr; is "standard output full" 14 $?; same "standard output full" full_out db
+
+# ---- a query of edge-256 by hand, of index 0 and of index 3 (docs/WIRE.md)
+
+{ repeat 0200000000000000 11; repeat 0100000000000000 501; head -c $((8 * (29184 - 512))) /dev/zero; } > words
+"$program" ask edge-256 0 words:words state setup query > said
+for ((v = 0; v < 256; v++)); do printf '%02x' $v; done > row; bytes "$(cat row)$(cat row)$(cat row)$(cat row)" > steps
+expect "a database of steps" 0 "database edge-256 1 records of 1024 bytes" prepare edge-256 1024 steps steps_db
+expect "an answer by hand" 0 "reply edge-256 2087 bytes" answer steps_db setup query reply 1
+# Row 0 is 0, and value v in rows 1 and 2 becomes 4v in 10 bits: four of these in 5 bytes.
+{
+  bytes 53504952010308656467652d323536100800000000000001000000000000000004000000000000
+  for entry in 1 2 3 4; do
+    for ((v = 0; v < 256; v += 4)); do
+      n=$((4 * v + (4 * v + 4 << 10) + (4 * v + 8 << 20) + (4 * v + 12 << 30)))
+      printf '%02x%02x%02x%02x%02x' $((n & 255)) $((n >> 8 & 255)) $((n >> 16 & 255)) $((n >> 24 & 255)) $((n >> 32))
+    done
+  done > entries
+  bytes "$(cat entries)"
+  head -c 768 /dev/zero
+} > wanted
+same "the reply by hand" reply wanted
+expect "the record by hand" 0 "record 1024 bytes" open state reply out; same "the record by hand" out steps
+"$program" ask edge-256 3 words:words state3 setup3 query3 > said
+expect "an answer for a record that isn't there" 0 "reply edge-256 2087 bytes" answer steps_db setup3 query3 reply3 1
+expect "a record that isn't there" 11 "absent: index 3, count 1" open state3 reply3 no; absent "a record that isn't there" no
+
+# ---- a look-up on tiny-stream from a seed of zeros, by each number of workers
+
+head -c 32 /dev/zero > seed; bytes 5a > one
+expect "one record of one byte" 0 "database tiny-stream 1 records of 1 bytes" prepare tiny-stream 1 one one_db
+expect "a query from a seed" 0 "query tiny-stream setup 0 bytes query 172058 bytes" ask tiny-stream 0 seed:seed st su qu
+for workers in 1 2 3 64; do
+  expect "$workers workers" 0 "reply tiny-stream 2858 bytes" answer one_db su qu "re$workers" "$workers"
+  same "the same reply by $workers workers" "re$workers" re1
+done
+expect "one byte back" 0 "record 1 bytes" open st re1 byte; same "one byte back" byte one
+expect "no workers" 2 "usage" answer one_db su qu no 0
+expect "too many workers" 2 "usage" answer one_db su qu no 65; absent "too many workers" no
+expect "workers with a leading zero" 2 "usage" answer one_db su qu no 01
+expect "a word too few" 2 "usage" answer one_db su qu no
+expect "a word too many" 2 "usage" answer one_db su qu no 1 more
+
+# Each record of a database comes back, for every index.
+{ for ((k = 0; k < 8; k++)); do head -c 5 /dev/zero | tr '\0' "\\$(printf %03o $((k + 65)))"; done; } > eight_records
+"$program" prepare tiny-stream 5 eight_records eight_db > said
+for ((k = 0; k < 8; k++)); do
+  head -c 31 /dev/zero > seed_k; bytes "$(printf %02x $k)" >> seed_k
+  "$program" ask tiny-stream $k seed:seed_k st su qu > said && "$program" answer eight_db su qu re 2 > said && "$program" open st re record_k > said
+  is "record $k" "$(tail -c +$((5 * k + 1)) eight_records | head -c 5)" "$(cat record_k)"
+done
+
+# ---- what `answer` refuses, each before REPLY is made
+
+# refused NAME HEX CODE PLACE: a database of these bytes.
+refused() { bytes "$2" > bad; expect "$1" 9 "bad frame: input 1, code $3, place $4" answer bad setup query no 1; }
+n0=0000000000000000 n1=0100000000000000 n2=0200000000000000 n4=0400000000000000
+refused "body length 15" "${front}0f00000000000000" 6 15
+refused "count 5" "${front}1000000000000000""0500000000000000$n4" 9 23
+refused "length 0" "${front}1000000000000000$n1$n0" 8 31
+refused "length 1025" "${front}1104000000000000$n1""0104000000000000" 8 31
+refused "a body length that isn't count times length" "${front}1700000000000000$n2$n4" 10 15
+refused "a body length of 2^64 - 1" "${front}ffffffffffffffff$n1$n4" 10 15
+refused "a byte after the frame" "$(hex db)00" 14 47
+refused "a frame without its last byte" "$(hex db | head -c 92)" 1 46
+refused "no byte" "" 1 0
+refused "another magic" 53504953 2 3
+refused "another version" 5350495203 3 4
+refused "another kind" 535049520107 4 5
+refused "a state" "$(head -c 31 state > cut; hex cut)" 4 5
+refused "a set without a name" 53504952010600 5 7
+refused "a set that isn't handled" 5350495201060b74696e792d73706972616c 5 7
+absent "refused databases" no
+(ulimit -v 200000; refused "a body of 2^64 - 1 bytes takes no memory" "${front}ffffffffffffffff$n1$n4" 10 15; [ "$failed" = 0 ]) && passed=$((passed + 1)) || failed=$((failed + 1))
+expect "a setup of one byte" 9 "" answer steps_db seven query no 1
+expect "a reply in the query's place" 9 "" answer steps_db setup reply no 1
+head -c 150550 query > cut; { cat query; printf '\0'; } > longer; { head -c 23 query; bytes 0100df1e20f1ed; tail -c 150521 query; } > at_q
+expect "a query without its last byte" 9 "" answer steps_db setup cut no 1
+expect "a byte after the query" 9 "" answer steps_db setup longer no 1
+expect "a residue that is q" 9 "" answer steps_db setup at_q no 1
+expect "a query of another set" 10 "wrong set: expected edge-256, found tiny-stream" answer steps_db su qu no 1
+expect "no database" 7 "file fault" answer missing setup query no 1
+expect "no setup" 7 "file fault" answer steps_db missing query no 1
+expect "no query" 7 "file fault" answer steps_db setup missing no 1
+absent "refused inputs" no
+expect "a reply that can't be written" 7 "file fault" answer steps_db setup query missing/reply 1
+"$program" answer steps_db setup query full_reply 1 > /dev/full 2> stderr; is "standard output full" 14 $?; same "standard output full" full_reply reply
+cp query both
+expect "the reply in the query's place" 0 "reply edge-256 2087 bytes" answer steps_db setup both both 1; same "the reply in the query's place" both reply
+
+closing
