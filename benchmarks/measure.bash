@@ -31,5 +31,5 @@ measure() {
     status=$?
   fi
   end=$(date +%s%N)
-  printf '%-24s %8d ms %8d KiB   %s (status %d)\n' "$label" $(((end - start) / 1000000)) "$peak" "$(cat said)" "$status"
+  printf '%-28s %8d ms %8d KiB   %s (status %d)\n' "$label" $(((end - start) / 1000000)) "$peak" "$(cat said)" "$status"
 }
