@@ -12,7 +12,7 @@ workers=2
 program=$top/crates/spiral_tool/out/spiral_tool
 if [ ! -x "$program" ]; then
   log=${TMPDIR:-/tmp}/spiral-build.log
-  echo "Proving and building the program; on a new machine this takes some minutes ..." >&2
+  echo "Proving and building the program; the first time this takes about a quarter of an hour ..." >&2
   (cd "$top/crates/spiral_tool" && rt run > "$log" 2>&1)
   if [ ! -x "$program" ]; then
     echo "The build failed; its output is in $log" >&2

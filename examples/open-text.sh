@@ -14,7 +14,7 @@ fi
 
 program=$top/crates/spiral_tool/out/spiral_tool
 if [ ! -x "$program" ]; then
-  echo "Proving and building the program; on a new machine this takes some minutes ..." >&2
+  echo "Proving and building the program; the first time this takes about a quarter of an hour ..." >&2
   (cd "$top/crates/spiral_tool" && rt run > "${TMPDIR:-/tmp}/spiral-build.log" 2>&1)
   if [ ! -x "$program" ]; then
     echo "The build failed; its output is in ${TMPDIR:-/tmp}/spiral-build.log" >&2
