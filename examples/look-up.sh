@@ -100,8 +100,9 @@ echo "# the server"
 step answer database setup query reply "$workers"
 echo "# the client"
 step open state reply record
-echo "\$ grep '^$name' record"
-grep -F -- "$name" record | awk -v name="$name" '$1 == name'
+filter="\$1 == \"$name\""
+echo "\$ awk '$filter' record"
+awk "$filter" record
 
 if ! cmp -s record <(tail -c +$((number * length + 1)) records | head -c "$length"); then
   echo "The record isn't the one that was asked for." >&2

@@ -7,7 +7,7 @@ ghost use Rattle.gsw_code.specs.Products.{IsGsw, IsReady};
 use super::*;
 use gsw_code::{Gsw, Ready};
 use regev_code::{Cipher, CipherT, QueryBody, Scratch, from_form};
-use ring_poly::{Poly, Ring};
+use ring_poly::{Poly, Q, Ring};
 use spiral_model::{ParamSet, set_at};
 use std::alloc::Global;
 use std::process::Abort;
@@ -16,9 +16,6 @@ use std::test::Fail;
 /// edge-256: N = 256, n = 2, 2 places, one selection, and digits of 7 bits, so t = 8. A query has 2 * 2 ciphertexts for
 /// the first dimension and 3 * 8 columns.
 const EDGE: usize = 4;
-
-/// q, as 268369921 * 249561089.
-const MODULUS: u64 = 66974689739603969;
 
 /// What stands at place 0 of rows 0, 1 and 2.
 type Numbers = (u64, u64, u64);
@@ -33,7 +30,7 @@ fn numbers_of(k: u32) -> Numbers {
 fn are_residues(numbers: &[u64]) -> bool
     ensures { IsTrue result → All (λ x. x < q) numbers.now }
 {
-    numbers.iter().all(|x| *x < MODULUS)
+    numbers.iter().all(|x| *x < Q)
 }
 
 fn is_row(a: &Poly) -> bool
