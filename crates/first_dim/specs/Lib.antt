@@ -1,2 +1,1 @@
 pub mod Preparations
-pub mod PlaceProducts

@@ -1,6 +1,7 @@
 ghost use Rattle.std.specs.Prelude.{◌≡◌, ◌+◌, ◌*◌, ◌^◌, ◌<◌, ◌≤◌, length, All};
-ghost use Rattle.spiral_model.specs.Sets.{IsSet, rows, columns};
-ghost use Rattle.spiral_model.specs.Answering.{first_product, first_products, firsts_count};
+ghost use Rattle.spiral_model.specs.Sets.{rows, columns};
+ghost use Rattle.spiral_model.specs.Answering.{first_product, first_products};
+ghost use Rattle.spiral_model.specs.Counts.{firsts_count};
 ghost use Rattle.regev_code.specs.Products.{HasShape};
 ghost use Rattle.first_dim.specs.Preparations.{AreMatrices, AreFirsts};
 
@@ -10,18 +11,8 @@ use crate::prepared::Matrix;
 use pir_io::Gate;
 use regev_code::{Cipher, CipherT, Scratch, from_form};
 use ring_poly::Ring;
-use spiral_model::ParamSet;
+use spiral_sets::ParamSet;
 use std::thread::Threads;
-
-/// The ciphertexts of a folded place: n, or n times n where the set packs.
-fn column_count(set: &ParamSet) -> usize
-    requires { IsSet set.now }
-    ensures value { result ≡ columns set.now }
-    ensures some { 0 < result }
-{
-    let n = set.n as usize;
-    if set.pack { n * n } else { n }
-}
 
 /// Writes column c of R_j, summed up in `sum`. It takes no memory.
 fn product_into(
@@ -98,7 +89,7 @@ fn products_by(
     ensures shapes { All (λ c. HasShape set.now.degree (rows set.now + 1) c) out.new }
     ensures scratch { scratch.new ≡ scratch.old }
 {
-    let columns = column_count(set);
+    let columns = set.columns() as usize;
     for place in 0..out.len() {
         let cipher = &mut out[place];
         product_by(

@@ -1,27 +1,12 @@
 ghost use Rattle.std.specs.Prelude.{◌≡◌, ◌+◌, ◌*◌, ◌^◌, ◌<◌};
 ghost use Rattle.spiral_model.specs.Sets.{IsSet, rows, columns};
-ghost use Rattle.first_dim.specs.Preparations.{IsMatrix, AreMatrices, AreFirsts, IsSum};
-ghost use Rattle.first_dim.specs.PlaceProducts.{place_product, places_product, added};
+ghost use Rattle.spiral_model.specs.Answering.{place_product, first_row};
+ghost use Rattle.first_dim.specs.Preparations.{IsMatrix, AreMatrices, AreFirsts, IsSum, added};
 
 use crate::prepared::Matrix;
 use regev_code::CipherT;
 use ring_poly::{PolyT, Ring};
-use spiral_model::ParamSet;
-
-/// m, the ciphertexts of a place of the first dimension: n, or one where the set packs.
-fn row_count(set: &ParamSet) -> usize
-    ensures { result ≡ rows set.now }
-{
-    if set.pack { 1 } else { set.n as usize }
-}
-
-/// The places of the first dimension: 2^nu1.
-fn place_count(set: &ParamSet) -> usize
-    requires { IsSet set.now }
-    ensures { result ≡ 2 ^ set.now.nu1 }
-{
-    1 << set.nu1
-}
+use spiral_sets::ParamSet;
 
 /// Adds the products of place i: ciphertext r of the place times entry r n + c of the record's matrix, for r below m.
 /// It takes no memory.
@@ -41,10 +26,10 @@ fn add_place(
     requires place { i < 2 ^ set.now.nu1 }
     requires column { c < columns set.now }
     requires sum { IsSum set.now.degree (rows set.now + 1) sum.old }
-    ensures value { sum.new ≡ added set.now.degree sum.old (λ row. place_product set.now matrix.now firsts.now i c row) }
+    ensures value { sum.new ≡ added set.now.degree sum.old (place_product set.now firsts.now matrix.now i c) }
     ensures sum { IsSum set.now.degree (rows set.now + 1) sum.new }
 {
-    let rows = row_count(set);
+    let rows = set.rows() as usize;
     let n = set.n as usize;
     for r in 0..rows {
         sum.add_product(ring, &matrix[r * n + c], &firsts[i * rows + r]);
@@ -68,10 +53,10 @@ pub(crate) fn add_places(
     requires folded { j < 2 ^ set.now.nu2 }
     requires column { c < columns set.now }
     requires sum { IsSum set.now.degree (rows set.now + 1) sum.old }
-    ensures value { sum.new ≡ added set.now.degree sum.old (λ row. places_product set.now matrices.now firsts.now j c row) }
+    ensures value { sum.new ≡ added set.now.degree sum.old (first_row set.now matrices.now firsts.now j c) }
     ensures sum { IsSum set.now.degree (rows set.now + 1) sum.new }
 {
-    let places = place_count(set);
+    let places = set.places() as usize;
     for i in 0..places {
         let matrix = &matrices[j * places + i];
         add_place(ring, set, &matrix.entries, firsts, i, c, sum);

@@ -1,13 +1,14 @@
 ghost use Rattle.std.specs.Prelude.{◌≡◌, IfOk};
 ghost use Rattle.spiral_model.specs.Databases.{matrices_of};
 
-use crate::records::{record_matrices, set_of};
+use crate::records::record_matrices;
 use no_memory::NoMemory;
 use record_store::Database;
 use ring_poly::{PolyT, Ring};
-use spiral_model::ParamSet;
+use spiral_sets::ParamSet;
 use std::alloc::Global;
 use std::marker::Model;
+use std::thread::Threads;
 
 /// The matrix of a record, its entries in product form, row by row. Seen as the list of its entries.
 #[derive(Drop)]
@@ -16,9 +17,9 @@ pub(crate) struct Matrix {
 }
 
 impl Model for Matrix {
-    ghost use Rattle.std.specs.Prelude.{List, ℕ};
+    ghost use Rattle.spiral_model.specs.Words.{Matrix};
 
-    ghost Value = { List (List ℕ) };
+    ghost Value = { Matrix };
 
     ghost view = { λ m. m.entries.items };
 }
@@ -42,13 +43,18 @@ impl Model for Prepared {
 }
 
 impl Prepared {
-    /// The records of a database, with the ring of its set.
-    pub fn new(alloc: Global, ring: &Ring, db: &Database) -> Result<Prepared, NoMemory>
+    /// The records of a database, with the ring of its set. The work is done in one piece.
+    pub fn new<R: Threads + Sync>(
+        _rt: &R,
+        alloc: Global,
+        ring: &Ring,
+        db: &Database,
+    ) -> Result<Prepared, NoMemory>
         requires { ring.now ≡ db.now.set.degree }
         ensures { IfOk result (λ prepared. prepared ≡ record { set = db.now.set; matrices = matrices_of db.now }) }
     {
         Ok(Prepared {
-            set: set_of(db),
+            set: db.set(),
             matrices: record_matrices(alloc, ring, db)?,
         })
     }

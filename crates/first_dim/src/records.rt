@@ -1,5 +1,5 @@
 ghost use Rattle.std.specs.Prelude.{ℕ, ◌≡◌, ◌^◌, ◌<◌, length, slice_index, All, IfOk};
-ghost use Rattle.spiral_model.specs.Sets.{IsSet, entries, max_records};
+ghost use Rattle.spiral_model.specs.Sets.{entries, max_records};
 ghost use Rattle.spiral_model.specs.Records.{entry_of};
 ghost use Rattle.spiral_model.specs.Databases.{values_at, matrix_of, matrices_of};
 
@@ -8,32 +8,7 @@ use crate::prepared::Matrix;
 use no_memory::NoMemory;
 use record_store::Database;
 use ring_poly::{Poly, Ring};
-use spiral_model::ParamSet;
 use std::alloc::Global;
-
-/// The set of a database.
-pub(crate) fn set_of(db: &Database) -> ParamSet
-    ensures same { result ≡ db.now.set }
-    ensures known { IsSet result }
-{
-    db.set
-}
-
-/// The entries of a record's matrix: n times n.
-fn entry_count(set: &ParamSet) -> u32
-    requires { IsSet set.now }
-    ensures { result ≡ entries set.now }
-{
-    set.n * set.n
-}
-
-/// The places of a database: 2^(nu1 + nu2).
-fn record_places(set: &ParamSet) -> u32
-    requires { IsSet set.now }
-    ensures { result ≡ max_records set.now }
-{
-    set.max_records() as u32
-}
 
 /// Writes the values of entry e of the matrix of record i.
 fn write_values(db: &Database, i: u32, e: u32, values: &mut [u64])
@@ -43,7 +18,7 @@ fn write_values(db: &Database, i: u32, e: u32, values: &mut [u64])
     ensures value { (k : ℕ) → k < db.now.set.degree → slice_index values.new k ≡ slice_index (entry_of db.now.set (values_at db.now i) e) k }
     ensures below { All (λ v. v < 2 ^ db.now.set.p_bits) values.new }
 {
-    let degree = set_of(db).degree;
+    let degree = db.set().degree;
     for k in 0..degree {
         values[k as usize] = db.value(i, e, k);
     }
@@ -65,11 +40,11 @@ fn record_matrix(
     ensures value { IfOk result (λ matrix. matrix ≡ matrix_of db.now i) }
     ensures poly { length poly.new ≡ ring.now }
 {
-    let set = set_of(db);
+    let set = db.set();
     let mut entries = Vec::new(alloc);
-    for e in 0..entry_count(&set) {
+    for e in 0..set.entries() {
         write_values(db, i, e, values);
-        entries.push(entry_form(alloc, ring, values, set.p_bits, poly)?)?;
+        entries.push(entry_form(alloc, ring, values, set.p(), poly)?)?;
     }
     Ok(Matrix { entries })
 }
@@ -86,7 +61,7 @@ pub(crate) fn record_matrices(
     let mut values = vec![in alloc; 0u64; ring.degree()]?;
     let mut poly = Poly::zero(alloc, ring.degree())?;
     let mut matrices = Vec::new(alloc);
-    for i in 0..record_places(&set_of(db)) {
+    for i in 0..db.set().max_records() as u32 {
         matrices.push(record_matrix(alloc, ring, db, i, &mut values, &mut poly)?)?;
     }
     Ok(matrices)

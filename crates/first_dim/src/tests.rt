@@ -1,14 +1,14 @@
 //! First dimensions whose polynomials are constants, in edge-256. The expected sums are worked out by hand.
 ghost use Rattle.std.specs.Prelude.{◌≡◌, ◌+◌, ◌<◌, ◌≤◌, length, All, IfOk, IsTrue};
-ghost use Rattle.spiral_model.specs.Sets.{IsSet, q};
+ghost use Rattle.spiral_model.specs.Sets.{IsSet};
 ghost use Rattle.regev_code.specs.Products.{HasShape};
 
 use super::*;
 use pir_io::OpenGate;
 use record_store::{Database, prepare};
 use regev_code::{Cipher, CipherT, Scratch, to_form};
-use ring_poly::{Poly, Q, Ring};
-use spiral_model::{ParamSet, set_at};
+use ring_poly::{Poly, Ring, are_residues};
+use spiral_sets::{ParamSet, Q, set_at};
 use std::alloc::Global;
 use std::process::Abort;
 use std::test::Fail;
@@ -31,17 +31,10 @@ fn database(alloc: Global, set: &ParamSet, matrices: &[[u8; 4]]) -> Result<Datab
     Ok(prepare(set, 769, bytes)?)
 }
 
-#[tactic(auto, unfolding(spiral_model::specs::Sets::q))]
-fn are_residues(numbers: &[u64]) -> bool
-    ensures { IsTrue result → All (λ x. x < q) numbers.now }
-{
-    numbers.iter().all(|x| *x < Q)
-}
-
 fn are_of_degree(rows: &[Poly], n: usize) -> bool
     ensures { IsTrue result → All (λ a. length a ≡ n) rows.now }
 {
-    rows.iter().all(|a| a.coeffs().len() == n)
+    rows.iter().all(|a| a.degree() == n)
 }
 
 /// The constant polynomials.
@@ -119,11 +112,19 @@ fn zeros(alloc: Global, set: &ParamSet, m: u32, count: usize) -> Result<Vec<Ciph
 }
 
 /// Rows 0 to m of the ciphertext are these constants.
-fn expect_constants(rt: &impl Abort, cipher: &Cipher, rows: &[u64], place: usize) {
+fn expect_constants(
+    rt: &impl Abort,
+    alloc: Global,
+    cipher: &Cipher,
+    rows: &[u64],
+    place: usize,
+) -> Result<(), Fail> {
     assert_eq!(rt; cipher.rows() as usize, rows.len());
+    let mut numbers = vec![in alloc; 0; 256]?;
     for (r, z) in rows.iter().enumerate() {
-        let numbers = cipher.row(r as u32).coeffs();
-        assert_eq!(rt; numbers.len(), 256);
+        let row = cipher.row(r as u32);
+        assert_eq!(rt; row.degree(), 256);
+        row.coeffs_into(&mut numbers);
         for (k, x) in numbers.iter().enumerate() {
             assert_eq!(rt;
                 *x,
@@ -132,6 +133,7 @@ fn expect_constants(rt: &impl Abort, cipher: &Cipher, rows: &[u64], place: usize
             );
         }
     }
+    Ok(())
 }
 
 #[test]
@@ -146,7 +148,7 @@ fn columns_of_a_set_that_does_not_pack(rt: HostRuntime) -> Result<(), Fail> {
         &set,
         &[[1, 2, 3, 4], [5, 255, 128, 7], [0, 9, 10, 0]],
     )?;
-    let prepared = Prepared::new(alloc, &ring, &db)?;
+    let prepared = Prepared::new(&rt, alloc, &ring, &db)?;
     let ciphers: [&[u64]; 4] = [&[1, 0, 0], &[0, 10, 0], &[100, 0, 0], &[0, 0, 1000]];
     let firsts = firsts(&rt, alloc, &ring, &set, 2, &ciphers)?;
     assert!(rt; firsts.len() == 4);
@@ -172,7 +174,7 @@ fn columns_of_a_set_that_does_not_pack(rt: HostRuntime) -> Result<(), Fail> {
         &[9, 0, 0],
     ];
     for (place, rows) in sums.iter().enumerate() {
-        expect_constants(&rt, &out[place], rows, place);
+        expect_constants(&rt, alloc, &out[place], rows, place)?;
     }
     Ok(())
 }

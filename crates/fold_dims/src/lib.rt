@@ -16,7 +16,7 @@ use gsw_code::Gsw;
 use pir_io::Gate;
 use regev_code::{Cipher, Scratch};
 use ring_poly::Ring;
-use spiral_model::ParamSet;
+use spiral_sets::ParamSet;
 use std::thread::Threads;
 
 /// Folds the ciphertexts of the first dimension, by folded place, within it by column: for each selection, that of the

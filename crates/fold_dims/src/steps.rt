@@ -1,7 +1,8 @@
 ghost use Rattle.std.specs.Prelude.{◌≡◌, ℕ, ◌+◌, ◌*◌, ◌^◌, ◌≤◌, length, map, take, All};
 ghost use Rattle.std.specs.List.{range_with_len};
 ghost use Rattle.spiral_model.specs.Sets.{rows};
-ghost use Rattle.spiral_model.specs.Gadgets.{cipher_at, selected};
+ghost use Rattle.spiral_model.specs.Words.{cipher_at};
+ghost use Rattle.spiral_model.specs.Gadgets.{selected};
 ghost use Rattle.spiral_model.specs.Answering.{fold_step, folded};
 ghost use Rattle.regev_code.specs.Products.{HasShape};
 ghost use Rattle.gsw_code.specs.Products.{IsGsw};

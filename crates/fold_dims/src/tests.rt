@@ -1,24 +1,21 @@
 ghost use Rattle.std.specs.Prelude.{◌≡◌, ◌+◌, ◌*◌, ◌^◌, ◌<◌, true, false, length, All, IfOk, IsTrue};
-ghost use Rattle.spiral_model.specs.Sets.{IsSet, q, columns, rows};
-ghost use Rattle.spiral_model.specs.Queries.{IsCipher};
+ghost use Rattle.spiral_model.specs.Sets.{IsSet, columns, rows};
+ghost use Rattle.spiral_model.specs.Ciphertexts.{IsCipher};
 ghost use Rattle.regev_code.specs.Products.{HasShape};
 ghost use Rattle.gsw_code.specs.Products.{IsGsw};
 
 use super::*;
 use gsw_code::encrypt_bit;
 use pir_io::OpenGate;
-use regev_code::{Draw, draw_secret};
-use ring_poly::Poly;
-use spiral_model::set_at;
+use regev_code::{Draw, draw_secret, is_cipher};
+use ring_poly::{Poly, are_residues};
+use spiral_sets::set_at;
 use std::alloc::Global;
 use std::process::Abort;
 use std::test::Fail;
 
 /// edge-256: N = 256, n = 2, no keys, one selection, and digits of 7 bits, so t = 8.
 const EDGE: usize = 4;
-
-/// q, as 268369921 * 249561089.
-const MODULUS: u64 = 66974689739603969;
 
 /// How many words the secrets take, 2 * 256, and the 24 columns, 4 * 256 each.
 const WORDS: usize = 25088;
@@ -36,35 +33,10 @@ fn words_of_zero(alloc: Global) -> Result<Vec<u64>, Fail> {
     Ok(words)
 }
 
-#[tactic(auto, unfolding(spiral_model::specs::Sets::q))]
-fn are_residues(numbers: &[u64]) -> bool
-    ensures { IsTrue result → All (λ x. x < q) numbers.now }
-{
-    numbers.iter().all(|x| *x < MODULUS)
-}
-
-fn is_row(a: &Poly) -> bool
-    ensures { IsTrue result → (length a.now ≡ 256) × All (λ x. x < q) a.now }
-{
-    a.coeffs().len() == 256
-}
-
-fn are_rows(rows: &[Poly]) -> bool
-    ensures { IsTrue result → All (λ a. (length a ≡ 256) × All (λ x. x < q) a) rows.now }
-{
-    rows.iter().all(|a| is_row(a))
-}
-
-fn is_column(c: &Cipher) -> bool
-    ensures { IsTrue result → IsCipher 256 2 c.now }
-{
-    c.rows() == 3 && are_rows(&c.polys)
-}
-
 fn are_columns(columns: &[Cipher]) -> bool
     ensures { IsTrue result → All (IsCipher 256 2) columns.now }
 {
-    columns.iter().all(|c| is_column(c))
+    columns.iter().all(|c| is_cipher(c, 256, 2))
 }
 
 fn has_shape(c: &Cipher) -> bool
@@ -82,7 +54,7 @@ fn have_shape(ciphers: &[Cipher]) -> bool
 fn are_polynomials(rows: &[Poly]) -> bool
     ensures { IsTrue result → All (λ a. length a ≡ 256) rows.now }
 {
-    rows.iter().all(|a| a.coeffs().len() == 256)
+    rows.iter().all(|a| a.degree() == 256)
 }
 
 /// z at one place, and 0 at the others.
@@ -201,20 +173,35 @@ fn folded_by<R: Threads + Sync + Abort>(
     Ok(ciphers)
 }
 
-fn holds(rt: &impl Abort, c: &Cipher, want: Numbers) {
+/// A coefficient of a polynomial.
+fn coefficient(rt: &impl Abort, alloc: Global, a: &Poly, place: usize) -> Result<u64, Fail> {
+    let mut numbers = vec![in alloc; 0u64; a.degree()]?;
+    a.coeffs_into(&mut numbers);
+    assert!(rt; place < numbers.len());
+    Ok(numbers[place])
+}
+
+fn holds(rt: &impl Abort, alloc: Global, c: &Cipher, want: Numbers) -> Result<(), Fail> {
     let places: [(u32, usize, u64); 3] = [(0, 0, want.0), (1, 3, want.1), (2, 200, want.2)];
     for (r, place, number) in places {
         assert!(rt; r < c.rows());
-        let coeffs = c.row(r).coeffs();
-        assert!(rt; place < coeffs.len());
-        assert_eq!(rt; coeffs[place], number, "row {r}, place {place}");
+        let found = coefficient(rt, alloc, c.row(r), place)?;
+        assert_eq!(rt; found, number, "row {r}, place {place}");
     }
+    Ok(())
 }
 
-fn hold(rt: &impl Abort, ciphers: &[Cipher], first: Numbers, second: Numbers) {
+fn hold(
+    rt: &impl Abort,
+    alloc: Global,
+    ciphers: &[Cipher],
+    first: Numbers,
+    second: Numbers,
+) -> Result<(), Fail> {
     assert!(rt; 2 <= ciphers.len());
-    holds(rt, &ciphers[0], first);
-    holds(rt, &ciphers[1], second);
+    holds(rt, alloc, &ciphers[0], first)?;
+    holds(rt, alloc, &ciphers[1], second)?;
+    Ok(())
 }
 
 /// Bit 0 keeps the lower half; bit 1 takes rows 1 and 2 of the upper half. Row 0 stays in both cases, since row 0 of each
@@ -226,8 +213,8 @@ fn selects_a_half(rt: HostRuntime) -> Result<(), Fail> {
     assert!(rt; set.degree == 256 && set.n == 2 && set.direct && !set.pack);
     assert!(rt; set.nu2 == 1 && set.w_gsw == 7);
     let kept = folded_by(&rt, alloc, &set, false)?;
-    hold(&rt, &kept, (5, 7, 0), (6, 8, 100));
+    hold(&rt, alloc, &kept, (5, 7, 0), (6, 8, 100))?;
     let taken = folded_by(&rt, alloc, &set, true)?;
-    hold(&rt, &taken, (5, 300, 900), (6, 0, 65535));
+    hold(&rt, alloc, &taken, (5, 300, 900), (6, 0, 65535))?;
     Ok(())
 }

@@ -3,9 +3,8 @@
 
 ghost use Rattle.std.specs.Prelude.{◌≡◌, ◌*◌, ◌^◌, ◌<◌, ◌≤◌, length, All};
 ghost use Rattle.std.specs.List.{range_with_len, flat_map};
-ghost use Rattle.negacyclic.specs.Digits.{digit};
-ghost use Rattle.spiral_model.specs.Sets.{q, digit_count as digit_count_of};
-ghost use Rattle.spiral_model.specs.Gadgets.{digit_poly};
+ghost use Rattle.negacyclic.specs.Digits.{digit, digit_poly};
+ghost use Rattle.spiral_sets.specs.Sets.{q, digit_count as digit_count_of};
 
 #[cfg(test)]
 mod tests;

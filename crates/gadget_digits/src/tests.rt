@@ -1,5 +1,5 @@
 ghost use Rattle.std.specs.Prelude.{◌<◌, All, IsTrue};
-ghost use Rattle.spiral_model.specs.Sets.{q};
+ghost use Rattle.spiral_sets.specs.Sets.{q};
 
 use super::*;
 use std::test::Fail;
@@ -7,7 +7,7 @@ use std::test::Fail;
 /// q - 1, the largest residue
 const LARGEST: u64 = 66974689739603968;
 
-#[tactic(auto, unfolding(spiral_model::specs::Sets::q))]
+#[tactic(auto, unfolding(spiral_sets::specs::Sets::q))]
 fn are_residues(numbers: &[u64]) -> bool
     ensures { IsTrue result → All (λ x. x < q) numbers.now }
 {

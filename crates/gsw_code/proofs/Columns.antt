@@ -1,229 +1,133 @@
--- The columns of a GSW ciphertext: their messages, and one after the other.
-use Rattle.std.proofs.Common.{◌≡◌, ℕ, zero, suc, ◌+◌, ◌*◌, ◌^◌, ◌<◌, ◌≤◌, ◌≢◌, ne_eqb, ◌==◌, if◌then◌else◌, pos, neg_ℤ, List, [], ◌∷◌, ◌++◌, length, get_or, map, All, refl, sym, ◌∙◌, ap, arith, append_assoc, append-nil, add-mul, mul-le-mul_right, length-append, subst}
+-- The columns of a GSW ciphertext, drawn one after the other.
+use Rattle.std.proofs.Common.{◌≡◌, ℕ, ◌+◌, ◌*◌, ◌^◌, ◌<◌, ◌≤◌, List, [], ◌∷◌, ◌++◌, length, map, refl, ◌∙◌, ap, subst, arith}
 use Rattle.std.specs.List.{range_with_len, flat_map}
-use Rattle.std.proofs.lemmas.List.{ext_get_or, length-map, get_or-map}
-use Rattle.std.proofs.lemmas.List.Elements.{All-nil, All-map, All-append}
-use Rattle.std.proofs.lemmas.List.FromFn.{length-map-range_with_len, get_or-map-range_with_len, map-range_with_len_more}
-use Rattle.negacyclic.specs.Ring.{ring_scale}
-use Rattle.spiral_model.specs.declared.param_set.ParamSet.{ParamSet}
-use Rattle.spiral_model.specs.Sets.{q, digit_count, rows}
-use Rattle.spiral_model.specs.Ciphertexts.{constant, encrypted, encrypted_all, words_taken}
-use Rattle.spiral_model.specs.Queries.{in_row, gsw_messages, gsw_columns}
-use Rattle.regev_code.proofs.Runs.{encrypted_all-none, encrypted_all-append, encrypted_all-more}
-use Rattle.regev_code.specs.Seen.{Cursor}
-use Rattle.regev_code.specs.Shapes.{taken}
-use Rattle.gsw_code.specs.Messages.{message_at, messages_of, first_columns, first_rows}
-use Rattle.gsw_code.proofs.ColumnMessages.{length-message_at}
+use Rattle.std.proofs.lemmas.List.FromFn.{map-range_with_len_more}
+use Rattle.negacyclic.proofs.Lists.{flat_map-more}
+use Rattle.spiral_sets.specs.declared.param_set.ParamSet.{ParamSet}
+use Rattle.spiral_sets.specs.Sets.{digit_count, rows}
+use Rattle.spiral_sets.specs.Counts.{gsw_count}
+use Rattle.spiral_model.specs.Words.{Poly, Cipher}
+use Rattle.spiral_model.specs.Ciphertexts.{encrypted, words_taken}
+use Rattle.spiral_model.specs.Queries.{column_message, gsw_messages, gsw_row_columns, gsw_columns}
+use Rattle.regev_code.specs.Seen.{Secrets, Cursor}
+use Rattle.regev_code.specs.Shapes.{taken, under}
+use Rattle.regev_code.proofs.MessageLists.{AreLists, lists-range, lists-pieces}
+use Rattle.regev_code.proofs.Draws.{drawn-none, drawn-one, drawn-more, room}
+use Rattle.gsw_code.specs.Columns.{row_secrets_of, ColumnsDrawn}
+use Rattle.gsw_code.proofs.ColumnMessages.{length-gsw_messages, messages_are}
 
--- ---- numbers, and the place of a cursor
+-- ---- one column
 
-none_times : (t : ℕ) → 0 ≡ 0 * t
-none_times t = omega arith
-
-times_more : (r t a b : ℕ) → a ≡ r * t → b ≡ t → a + b ≡ suc r * t
-times_more r t a b first second = omega arith
-
-suc_is : (r : ℕ) → suc r ≡ r + 1
-suc_is r = omega arith
-
-pub one_more : (k T : ℕ) → (k + 1) * T ≡ k * T + T
-one_more k T = omega arith
-
-pub rows_words : (r t T : ℕ) → (r + 1) * t * T ≡ r * t * T + t * T
-rows_words r t T =
-    let e : (r + 1) * t ≡ r * t + t = omega arith in ap (λ (x : ℕ). x * T) e ∙ add-mul (r * t) t T
-
-pub room : (used r m t T len : ℕ) → r < m + 1 → used + (m + 1) * t * T ≤ len → used + r * t * T + t * T ≤ len
-room used r m t T len h enough =
-    let a : suc r * t ≤ (m + 1) * t = mul-le-mul_right t h in
-    let b : suc r * t * T ≤ (m + 1) * t * T = mul-le-mul_right T a in
-    let c : suc r * t * T ≡ (r + 1) * t * T = ap (λ (x : ℕ). x * t * T) (suc_is r) in
-    let d = rows_words r t T in omega arith
-
-abbrev used_at : Cursor → ℕ → Cursor
-used_at cursor n = record cursor { used = n }
-
-pub taken-none : (d : Cursor) (n : ℕ) → n ≡ 0 → d ≡ taken d n
-taken-none d n none =
-    let same : d.used ≡ d.used + n = omega arith in ap (used_at d) same
-
-pub taken-more : (d mid new : Cursor) (a b n : ℕ) → n ≡ a + b → mid ≡ taken d a → new ≡ taken mid b → new ≡ taken d n
-taken-more d mid new a b n sum first second =
-    let place : d.used + a + b ≡ d.used + n = omega arith in
-    second ∙ ap (λ (x : Cursor). taken x b) first ∙ ap (used_at d) place
-
--- ---- the messages of one column
-
-over_secrets : (f : List ℕ → List ℕ) (secrets : List (List ℕ)) (m : ℕ) → length secrets ≡ m
-    → map (λ i. f (get_or secrets i [])) (range_with_len 0 m) ≡ map f secrets
-over_secrets f secrets m count =
-    ext_get_or [] (map (λ i. f (get_or secrets i [])) (range_with_len 0 m)) (map f secrets)
-    (length-map-range_with_len (λ i. f (get_or secrets i [])) 0 m ∙ sym count ∙ sym (length-map secrets f))
-    (λ i lt.
-    let size = length-map-range_with_len (λ i. f (get_or secrets i [])) 0 m in
-    let h : i < m = omega arith in
-    let g : i < length secrets = omega arith in
-    get_or-map-range_with_len {X = List ℕ} (λ j. f (get_or secrets j [])) 0 m i i [] h (omega arith) ∙ sym (get_or-map f secrets i [] [] g))
-
-from_one : (f : ℕ → List ℕ) (m : ℕ) → map (λ i. f (i + 1)) (range_with_len 0 m) ≡ map f (range_with_len 1 m)
-from_one f m =
-    ext_get_or [] (map (λ i. f (i + 1)) (range_with_len 0 m)) (map f (range_with_len 1 m))
-    (length-map-range_with_len (λ i. f (i + 1)) 0 m ∙ sym (length-map-range_with_len f 1 m))
-    (λ i lt.
-    let size = length-map-range_with_len (λ i. f (i + 1)) 0 m in
-    let h : i < m = omega arith in
-    get_or-map-range_with_len {X = List ℕ} (λ i. f (i + 1)) 0 m i i [] h (omega arith)
-    ∙ sym (get_or-map-range_with_len {X = List ℕ} f 1 m i (i + 1) [] h (omega arith)))
-
-messages_zero : (N : ℕ) (secrets : List (List ℕ)) (power m : ℕ) → length secrets ≡ m
-    → messages_of N secrets power m 0 ≡ map (λ s. ring_scale q N (neg_ℤ (pos power)) s) secrets
-unfolding messages_of message_at
-messages_zero N secrets power m count = over_secrets (λ s. ring_scale q N (neg_ℤ (pos power)) s) secrets m count
-
-messages_row : (N : ℕ) (secrets : List (List ℕ)) (power m r : ℕ) → r ≢ 0
-    → messages_of N secrets power m r ≡ map (λ i. constant N (if i == r then pos power else pos 0)) (range_with_len 1 m)
-unfolding messages_of message_at
-messages_row N secrets power m r other =
-    rw (ne_eqb r 0 other) (from_one (λ i. constant N (if i == r then pos power else pos 0)) m)
-
-messages_gsw : (set : ParamSet) (secrets : List (List ℕ)) (bit r k : ℕ) → length secrets ≡ rows set
-    → messages_of set.degree secrets (bit * 2 ^ (set.w_gsw * k)) (rows set) r ≡ gsw_messages set secrets bit r k
-unfolding gsw_messages in_row
-messages_gsw set secrets bit zero k count = messages_zero set.degree secrets (bit * 2 ^ (set.w_gsw * k)) (rows set) count
-messages_gsw set secrets bit (suc r) k count =
-    let other : suc r ≢ 0 = omega arith in
-    rw (ne_eqb (suc r) 0 other) (messages_row set.degree secrets (bit * 2 ^ (set.w_gsw * k)) (rows set) (suc r) other)
-
-pub messages_are : (N m : ℕ) (set : ParamSet) (secrets : List (List ℕ)) (bit power r k : ℕ) (worked : List (List ℕ)) → N ≡ set.degree → m ≡ rows set → length secrets ≡ rows set
-    → power ≡ bit * 2 ^ (set.w_gsw * k) → worked ≡ messages_of N secrets power m r → worked ≡ gsw_messages set secrets bit r k
-messages_are N m set secrets bit power r k worked degree count all counts is =
-    let whole = messages_gsw set secrets bit r k all in cc
-
-pub length-messages_of : (N : ℕ) (secrets : List (List ℕ)) (power m r : ℕ) → length (messages_of N secrets power m r) ≡ m
-unfolding messages_of
-length-messages_of N secrets power m r = length-map-range_with_len (λ i. message_at N secrets power r i) 0 m
-
-pub messages_of-degree : (N : ℕ) (secrets : List (List ℕ)) (power m r : ℕ) → All (λ a. length a ≡ N) (messages_of N secrets power m r)
-unfolding messages_of
-messages_of-degree N secrets power m r =
-    All-map (λ (a : List ℕ). length a ≡ N) (λ i. message_at N secrets power r i) (range_with_len 0 m) (λ k d h. length-message_at N secrets power r _)
-
-pub length-gsw_messages : (set : ParamSet) (secrets : List (List ℕ)) (bit r k : ℕ) → length secrets ≡ rows set → length (gsw_messages set secrets bit r k) ≡ rows set
-length-gsw_messages set secrets bit r k count =
-    ap length (sym (messages_gsw set secrets bit r k count)) ∙ length-messages_of set.degree secrets (bit * 2 ^ (set.w_gsw * k)) (rows set) r
+-- a column as the code draws it
+pub column_drawn : (N : ℕ) (set : ParamSet) (secrets : Secrets) (bit power r k : ℕ) (messages : List Poly) (column : Cipher) (from to : Cursor) (old new : List Cipher)
+    → N ≡ set.degree → power ≡ bit * 2 ^ (set.w_gsw * k)
+    → messages ≡ map (column_message N (under N secrets set.pack) power r) (range_with_len 1 (rows set))
+    → column ≡ encrypted N from.words from.used (under N secrets set.pack) messages → to ≡ taken from (words_taken N (length messages)) → new ≡ old ++ column ∷ []
+    → ColumnsDrawn set secrets (λ s. gsw_messages set s bit r k ∷ []) from to old new
+column_drawn N set secrets bit power r k messages column from to old new degree counts worked drawn at pushed =
+    let s = row_secrets_of set secrets in
+    let all : messages ≡ gsw_messages set s bit r k =
+    messages_are set s bit power r k messages counts (worked ∙ ap (λ (n : ℕ). map (column_message n (under n secrets set.pack) power r) (range_with_len 1 (rows set))) degree) in
+    let size : length messages ≡ rows set = ap length all ∙ length-gsw_messages set s bit r k in
+    drawn-one set.degree (rows set) s (gsw_messages set s bit r k) column from to old new
+    (at ∙ ap (λ (n : ℕ). taken from (words_taken n (length messages))) degree ∙ ap (λ (n : ℕ). taken from (words_taken set.degree n)) size)
+    (drawn ∙ ap (λ (n : ℕ). encrypted n from.words from.used (under n secrets set.pack) messages) degree
+    ∙ ap (λ (ms : List Poly). encrypted set.degree from.words from.used s ms) all) pushed
 
 -- ---- the columns of a row
 
-pub first_columns-none : (set : ParamSet) (secrets : List (List ℕ)) (bit r : ℕ) → first_columns set secrets bit r 0 ≡ []
-unfolding first_columns
-first_columns-none set secrets bit r = refl
+columns-lists : (set : ParamSet) (secrets : List Poly) (bit r n : ℕ) → AreLists (rows set) n (map (gsw_messages set secrets bit r) (range_with_len 0 n))
+columns-lists set secrets bit r n = lists-range (rows set) n (gsw_messages set secrets bit r) (λ k h. length-gsw_messages set secrets bit r k)
 
-first_columns-more : (set : ParamSet) (secrets : List (List ℕ)) (bit r k : ℕ)
-    → first_columns set secrets bit r (k + 1) ≡ first_columns set secrets bit r k ++ gsw_messages set secrets bit r k ∷ []
-unfolding first_columns
-first_columns-more set secrets bit r k = map-range_with_len_more {X = List (List ℕ)} (λ j. gsw_messages set secrets bit r j) 0 k k (omega arith)
+-- no column
+pub columns-none : (set : ParamSet) (secrets : Secrets) (bit r : ℕ) (at : Cursor) (old : List Cipher)
+    → ColumnsDrawn set secrets (λ s. map (gsw_messages set s bit r) (range_with_len 0 0)) at at old old
+columns-none set secrets bit r at old = drawn-none set.degree (rows set) (row_secrets_of set secrets) _ at old refl
 
-length-first_columns : (set : ParamSet) (secrets : List (List ℕ)) (bit r count : ℕ) → length (first_columns set secrets bit r count) ≡ count
-unfolding first_columns
-length-first_columns set secrets bit r count = length-map-range_with_len (λ k. gsw_messages set secrets bit r k) 0 count
+-- one more
+pub columns-more : (set : ParamSet) (secrets : Secrets) (bit r k : ℕ) (from mid to : Cursor) (old half new : List Cipher)
+    → ColumnsDrawn set secrets (λ s. map (gsw_messages set s bit r) (range_with_len 0 k)) from mid old half
+    → ColumnsDrawn set secrets (λ s. gsw_messages set s bit r k ∷ []) mid to half new
+    → ColumnsDrawn set secrets (λ s. map (gsw_messages set s bit r) (range_with_len 0 (k + 1))) from to old new
+columns-more set secrets bit r k from mid to old half new so_far one =
+    let s = row_secrets_of set secrets in
+    drawn-more set.degree (rows set) k s (map (gsw_messages set s bit r) (range_with_len 0 k)) (gsw_messages set s bit r k ∷ []) (map (gsw_messages set s bit r) (range_with_len 0 (k + 1)))
+    from mid to old half new (columns-lists set s bit r k) (map-range_with_len_more {X = List Poly} (gsw_messages set s bit r) 0 k k (omega arith)) so_far one
 
-first_columns-rows : (set : ParamSet) (secrets : List (List ℕ)) (bit r count : ℕ) → length secrets ≡ rows set → All (λ x. length x ≡ rows set) (first_columns set secrets bit r count)
-unfolding first_columns
-first_columns-rows set secrets bit r count all =
-    All-map (λ (x : List (List ℕ)). length x ≡ rows set) (λ k. gsw_messages set secrets bit r k) (range_with_len 0 count) (λ k d h. length-gsw_messages set secrets bit r _ all)
+-- all
+pub columns-all : (set : ParamSet) (secrets : Secrets) (bit r k : ℕ) (from to : Cursor) (old new : List Cipher) → k ≡ digit_count set.w_gsw
+    → ColumnsDrawn set secrets (λ s. map (gsw_messages set s bit r) (range_with_len 0 k)) from to old new
+    → ColumnsDrawn set secrets (λ s. gsw_row_columns set s bit r) from to old new
+unfolding gsw_row_columns
+columns-all set secrets bit r k from to old new all so_far =
+    subst (λ (n : ℕ). ColumnsDrawn set secrets (λ s. map (gsw_messages set s bit r) (range_with_len 0 n)) from to old new) all so_far
 
--- A column that was drawn ahead.
-pub column_drawn : (N : ℕ) (draw ahead : Cursor) (secrets messages column : List (List ℕ)) (n : ℕ) → ahead ≡ taken draw n
-    → column ≡ encrypted N ahead.words ahead.used secrets messages → column ≡ encrypted N draw.words (draw.used + n) secrets messages
-column_drawn N draw ahead secrets messages column n at drawn = drawn ∙ ap (λ (d : Cursor). encrypted N d.words d.used secrets messages) at
-
-pub columns_none : (N : ℕ) (words : List ℕ) (start : ℕ) (set : ParamSet) (secrets : List (List ℕ)) (bit r : ℕ) (front : List (List (List ℕ)))
-    → front ≡ front ++ encrypted_all N words start secrets (first_columns set secrets bit r 0)
-columns_none N words start set secrets bit r front =
-    sym
-    (ap (λ (xs : List (List (List ℕ))). front ++ encrypted_all N words start secrets xs) (first_columns-none set secrets bit r)
-    ∙ ap (λ (cs : List (List (List ℕ))). front ++ cs) (encrypted_all-none N words start secrets) ∙ append-nil front)
-
--- One more column.
-pub column_more : (N : ℕ) (words : List ℕ) (start : ℕ) (set : ParamSet) (secrets : List (List ℕ)) (bit r k place : ℕ) (front old new : List (List (List ℕ))) (column : List (List ℕ))
-    → length secrets ≡ rows set → place ≡ start + k * words_taken N (rows set) → old ≡ front ++ encrypted_all N words start secrets (first_columns set secrets bit r k)
-    → column ≡ encrypted N words place secrets (gsw_messages set secrets bit r k) → new ≡ old ++ column ∷ []
-    → new ≡ front ++ encrypted_all N words start secrets (first_columns set secrets bit r (k + 1))
-column_more N words start set secrets bit r k place front old new column all at so_far drawn pushed =
-    let T = words_taken N (rows set) in
-    let before = encrypted_all N words start secrets (first_columns set secrets bit r k) in
-    let here : column ≡ encrypted N words (start + length (first_columns set secrets bit r k) * T) secrets (gsw_messages set secrets bit r k) =
-    drawn ∙ ap (λ (p : ℕ). encrypted N words p secrets (gsw_messages set secrets bit r k)) (at ∙ ap (λ (n : ℕ). start + n * T) (sym (length-first_columns set secrets bit r k))) in
-    let more = encrypted_all-more N words start secrets (rows set) (first_columns set secrets bit r k) (gsw_messages set secrets bit r k) (first_columns-rows set secrets bit r k all) in
-    let list = ap (λ (xs : List (List (List ℕ))). encrypted_all N words start secrets xs) (first_columns-more set secrets bit r k) in
-    let joined = append_assoc front before (column ∷ []) in
-    pushed ∙ ap (λ (cs : List (List (List ℕ))). cs ++ column ∷ []) so_far ∙ joined
-    ∙ ap (λ (cs : List (List (List ℕ))). front ++ cs) (ap (λ (c : List (List ℕ)). before ++ c ∷ []) here ∙ sym (list ∙ more))
+-- how many the columns of a row are
+pub row-lists : (set : ParamSet) (secrets : List Poly) (bit r : ℕ) → AreLists (rows set) (digit_count set.w_gsw) (gsw_row_columns set secrets bit r)
+unfolding gsw_row_columns
+row-lists set secrets bit r = columns-lists set secrets bit r (digit_count set.w_gsw)
 
 -- ---- the columns of all rows
 
-flat_map-more : (f : ℕ → List (List (List ℕ))) (a n : ℕ) → flat_map f (range_with_len a (suc n)) ≡ flat_map f (range_with_len a n) ++ f (a + n)
-flat_map-more f a zero =
-    let place : a + 0 ≡ a = omega arith in rw place (append-nil (f a))
-flat_map-more f a (suc n) =
-    let place : a + 1 + n ≡ a + suc n = omega arith in
-    ap (λ (xs : List (List (List ℕ))). f a ++ xs) (flat_map-more f (a + 1) n ∙ ap (λ (p : ℕ). flat_map f (range_with_len (a + 1) n) ++ f p) place)
-    ∙ sym (append_assoc (f a) (flat_map f (range_with_len (a + 1) n)) (f (a + suc n)))
+rows-lists : (set : ParamSet) (secrets : List Poly) (bit n : ℕ) → AreLists (rows set) (n * digit_count set.w_gsw) (flat_map (gsw_row_columns set secrets bit) (range_with_len 0 n))
+rows-lists set secrets bit n = lists-pieces (rows set) (digit_count set.w_gsw) n (gsw_row_columns set secrets bit) (λ r h. row-lists set secrets bit r)
 
-pub first_rows-none : (set : ParamSet) (secrets : List (List ℕ)) (bit : ℕ) → first_rows set secrets bit 0 ≡ []
-unfolding first_rows
-first_rows-none set secrets bit = refl
+-- no row
+pub rows-none : (set : ParamSet) (secrets : Secrets) (bit : ℕ) (from at : Cursor) (columns : List Cipher) → at ≡ from → columns ≡ []
+    → ColumnsDrawn set secrets (λ s. flat_map (gsw_row_columns set s bit) (range_with_len 0 0)) from at [] columns
+rows-none set secrets bit from at columns same none =
+    rw (same, none) (drawn-none set.degree (rows set) (row_secrets_of set secrets) _ from [] refl)
 
-first_rows-more : (set : ParamSet) (secrets : List (List ℕ)) (bit r : ℕ)
-    → first_rows set secrets bit (r + 1) ≡ first_rows set secrets bit r ++ first_columns set secrets bit r (digit_count set.w_gsw)
-unfolding first_rows
-first_rows-more set secrets bit r =
-    let f = λ (x : ℕ). first_columns set secrets bit x (digit_count set.w_gsw) in
-    let next : r + 1 ≡ suc r = omega arith in
-    let place : 0 + r ≡ r = omega arith in
-    ap (λ (n : ℕ). flat_map {X = ℕ} {A = List (List ℕ)} f (range_with_len 0 n)) next ∙ flat_map-more f 0 r
-    ∙ ap (λ (p : ℕ). flat_map {X = ℕ} {A = List (List ℕ)} f (range_with_len 0 r) ++ f p) place
+-- one more
+pub rows-more : (set : ParamSet) (secrets : Secrets) (bit r : ℕ) (from mid to : Cursor) (old half new : List Cipher)
+    → ColumnsDrawn set secrets (λ s. flat_map (gsw_row_columns set s bit) (range_with_len 0 r)) from mid old half
+    → ColumnsDrawn set secrets (λ s. gsw_row_columns set s bit r) mid to half new
+    → ColumnsDrawn set secrets (λ s. flat_map (gsw_row_columns set s bit) (range_with_len 0 (r + 1))) from to old new
+rows-more set secrets bit r from mid to old half new so_far one =
+    let s = row_secrets_of set secrets in
+    drawn-more set.degree (rows set) (r * digit_count set.w_gsw) s (flat_map (gsw_row_columns set s bit) (range_with_len 0 r)) (gsw_row_columns set s bit r)
+    (flat_map (gsw_row_columns set s bit) (range_with_len 0 (r + 1))) from mid to old half new (rows-lists set s bit r) (flat_map-more (gsw_row_columns set s bit) 0 r r (omega arith)) so_far one
 
-pub first_rows-all : (set : ParamSet) (secrets : List (List ℕ)) (bit : ℕ) → first_rows set secrets bit (rows set + 1) ≡ gsw_columns set secrets bit
-unfolding first_rows first_columns gsw_columns
-first_rows-all set secrets bit = refl
+-- all, with a cursor that is where the last one ended
+pub rows-all : (set : ParamSet) (secrets : Secrets) (bit r : ℕ) (from ahead to : Cursor) (columns : List Cipher) → r ≡ rows set + 1 → to ≡ ahead
+    → ColumnsDrawn set secrets (λ s. flat_map (gsw_row_columns set s bit) (range_with_len 0 r)) from ahead [] columns
+    → ColumnsDrawn set secrets (λ s. gsw_columns set s bit) from to [] columns
+unfolding gsw_columns
+rows-all set secrets bit r from ahead to columns all same so_far =
+    rw same (subst (λ (n : ℕ). ColumnsDrawn set secrets (λ s. flat_map (gsw_row_columns set s bit) (range_with_len 0 n)) from ahead [] columns) all so_far)
 
--- how many columns the first rows have, and the messages of each
-length-first_rows : (set : ParamSet) (secrets : List (List ℕ)) (bit r : ℕ) → length (first_rows set secrets bit r) ≡ r * digit_count set.w_gsw
-length-first_rows set secrets bit zero = ap length (first_rows-none set secrets bit) ∙ none_times (digit_count set.w_gsw)
-length-first_rows set secrets bit (suc r) =
+-- how many all columns are
+pub gsw-lists : (set : ParamSet) (secrets : List Poly) (bit : ℕ) → AreLists (rows set) (gsw_count set) (gsw_columns set secrets bit)
+unfolding gsw_columns
+gsw-lists set secrets bit = rows-lists set secrets bit (rows set + 1)
+
+-- ---- words
+
+-- the words for one more column of a row
+pub column-room : (set : ParamSet) (secrets : Secrets) (bit r k n : ℕ) (from mid : Cursor) (old half : List Cipher) → k < n
+    → ColumnsDrawn set secrets (λ s. map (gsw_messages set s bit r) (range_with_len 0 k)) from mid old half
+    → from.used + n * words_taken set.degree (rows set) ≤ length from.words → mid.used + words_taken set.degree (rows set) ≤ length mid.words
+column-room set secrets bit r k n from mid old half h so_far enough =
+    let s = row_secrets_of set secrets in
+    room from mid _ k n (words_taken set.degree (rows set)) so_far.words (ap (λ (x : ℕ). x * words_taken set.degree (rows set)) (columns-lists set s bit r k).many) h enough
+
+whole_row : (L r t T : ℕ) → L ≡ r * t → L * T ≡ r * (t * T)
+whole_row L r t T is = rw is (omega arith)
+
+-- those for one more row
+pub row-room : (set : ParamSet) (secrets : Secrets) (bit r : ℕ) (from mid : Cursor) (old half : List Cipher) → r < rows set + 1
+    → ColumnsDrawn set secrets (λ s. flat_map (gsw_row_columns set s bit) (range_with_len 0 r)) from mid old half
+    → from.used + gsw_count set * words_taken set.degree (rows set) ≤ length from.words
+    → mid.used + digit_count set.w_gsw * words_taken set.degree (rows set) ≤ length mid.words
+row-room set secrets bit r from mid old half h so_far enough =
+    let s = row_secrets_of set secrets in
     let t = digit_count set.w_gsw in
-    let next : suc r ≡ r + 1 = omega arith in
-    ap (λ (n : ℕ). length (first_rows set secrets bit n)) next ∙ ap length (first_rows-more set secrets bit r)
-    ∙ length-append (first_rows set secrets bit r) (first_columns set secrets bit r t)
-    ∙ times_more r t _ _ (length-first_rows set secrets bit r) (length-first_columns set secrets bit r t)
+    let T = words_taken set.degree (rows set) in
+    let all : gsw_count set * T ≡ (rows set + 1) * (t * T) = whole_row (gsw_count set) (rows set + 1) t T refl in
+    room from mid _ r (rows set + 1) (t * T) so_far.words (whole_row _ r t T (rows-lists set s bit r).many) h (omega (arith, all))
 
-first_rows-rows : (set : ParamSet) (secrets : List (List ℕ)) (bit r : ℕ) → length secrets ≡ rows set → All (λ x. length x ≡ rows set) (first_rows set secrets bit r)
-first_rows-rows set secrets bit zero all =
-    subst (λ (xs : List (List (List ℕ))). All (λ x. length x ≡ rows set) xs) (sym (first_rows-none set secrets bit)) (All-nil (λ (x : List (List ℕ)). length x ≡ rows set))
-first_rows-rows set secrets bit (suc r) all =
-    let t = digit_count set.w_gsw in
-    let next : suc r ≡ r + 1 = omega arith in
-    subst (λ (xs : List (List (List ℕ))). All (λ x. length x ≡ rows set) xs) (sym (ap (λ (n : ℕ). first_rows set secrets bit n) next ∙ first_rows-more set secrets bit r))
-    (All-append (λ (x : List (List ℕ)). length x ≡ rows set) (first_rows set secrets bit r) (first_columns set secrets bit r t) (first_rows-rows set secrets bit r all)
-    (first_columns-rows set secrets bit r t all))
-
--- One more row.
-pub row_more : (N : ℕ) (draw ahead : Cursor) (set : ParamSet) (secrets : List (List ℕ)) (bit r : ℕ) (old new : List (List (List ℕ)))
-    → length secrets ≡ rows set → ahead ≡ taken draw (r * digit_count set.w_gsw * words_taken N (rows set))
-    → old ≡ encrypted_all N draw.words draw.used secrets (first_rows set secrets bit r)
-    → new ≡ old ++ encrypted_all N ahead.words ahead.used secrets (first_columns set secrets bit r (digit_count set.w_gsw))
-    → new ≡ encrypted_all N draw.words draw.used secrets (first_rows set secrets bit (r + 1))
-row_more N draw ahead set secrets bit r old new all at so_far drawn =
-    let t = digit_count set.w_gsw in
-    let T = words_taken N (rows set) in
-    let before = first_rows set secrets bit r in
-    let row = first_columns set secrets bit r t in
-    let count = length-first_rows set secrets bit r in
-    let here = ap (λ (d : Cursor). encrypted_all N d.words d.used secrets row) at in
-    let place = ap (λ (n : ℕ). encrypted_all N draw.words (draw.used + n * T) secrets row) (sym count) in
-    let more = encrypted_all-append N draw.words draw.used secrets (rows set) before row (first_rows-rows set secrets bit r all) in
-    let list = ap (λ (xs : List (List (List ℕ))). encrypted_all N draw.words draw.used secrets xs) (first_rows-more set secrets bit r) in
-    drawn ∙ ap (λ (cs : List (List (List ℕ))). cs ++ encrypted_all N ahead.words ahead.used secrets row) so_far
-    ∙ ap (λ (cs : List (List (List ℕ))). encrypted_all N draw.words draw.used secrets before ++ cs) (here ∙ place)
-    ∙ sym (list ∙ more)
+-- those of all columns
+pub all_taken : (set : ParamSet) (secrets : Secrets) (bit : ℕ) (from to : Cursor) (old new : List Cipher)
+    → ColumnsDrawn set secrets (λ s. gsw_columns set s bit) from to old new → to ≡ taken from (gsw_count set * words_taken set.degree (rows set))
+all_taken set secrets bit from to old new drawn =
+    drawn.words ∙ ap (λ (n : ℕ). taken from (n * words_taken set.degree (rows set))) (gsw-lists set (row_secrets_of set secrets) bit).many

@@ -2,3 +2,4 @@ pub mod Widths
 pub mod ColumnMessages
 pub mod Columns
 pub mod Products
+pub mod TestShapes

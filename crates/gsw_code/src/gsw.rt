@@ -1,13 +1,16 @@
-ghost use Rattle.std.specs.Prelude.{◌≡◌, ◌+◌, ◌*◌, length, All, IfOk};
-ghost use Rattle.spiral_model.specs.Sets.{IsSet, digit_count as digit_count_of, rows};
-ghost use Rattle.spiral_model.specs.Queries.{IsCipher};
+ghost use Rattle.std.specs.Prelude.{◌≡◌, ◌+◌, ◌*◌, ◌<◌, ◌≤◌, length, All, IfOk};
+ghost use Rattle.spiral_sets.specs.Sets.{IsSet, digit_count as digit_count_of, rows};
+ghost use Rattle.spiral_sets.specs.Counts.{gsw_count};
+ghost use Rattle.spiral_model.specs.Words.{cipher_at};
+ghost use Rattle.spiral_model.specs.Ciphertexts.{IsCipher};
+ghost use Rattle.regev_code.specs.Products.{HasShape};
 ghost use Rattle.gsw_code.specs.Products.{IsGsw};
 
-use crate::messages::row_count;
+use gadget_digits::digit_count;
 use no_memory::NoMemory;
 use regev_code::{Cipher, CipherT, to_form};
 use ring_poly::Ring;
-use spiral_model::ParamSet;
+use spiral_sets::ParamSet;
 use std::alloc::Global;
 use std::marker::Model;
 
@@ -19,9 +22,9 @@ pub struct Gsw {
 }
 
 impl Model for Gsw {
-    ghost use Rattle.std.specs.Prelude.{List, ℕ};
+    ghost use Rattle.spiral_model.specs.Words.{Gsw as GswOf};
 
-    ghost Value = { List (List (List ℕ)) };
+    ghost Value = { GswOf };
 
     ghost view = { λ g. g.columns.items };
 }
@@ -32,6 +35,14 @@ impl Model for Gsw {
 pub struct Ready {
     pub firsts: Vec<CipherT>,
     pub gsws: Vec<Gsw>,
+}
+
+impl Model for Ready {
+    ghost use Rattle.spiral_model.specs.Answering.{Ready as ReadyOf};
+
+    ghost Value = { ReadyOf };
+
+    ghost view = { λ r. record { firsts = r.firsts.items; gsws = r.gsws.items } };
 }
 
 /// Ciphertexts of a set in product form, one by one.
@@ -48,7 +59,7 @@ pub fn forms_of(
 {
     let mut forms = Vec::new(alloc);
     for column in columns {
-        let mut form = CipherT::zero(alloc, set, row_count(set))?;
+        let mut form = CipherT::zero(alloc, set, set.rows())?;
         to_form(ring, column, &mut form);
         forms.push(form)?;
     }
@@ -65,7 +76,7 @@ impl Gsw {
     ) -> Result<Gsw, NoMemory>
         requires known { IsSet set.now }
         requires ring { ring.now ≡ set.now.degree }
-        requires count { length columns.now ≡ (rows set.now + 1) * digit_count_of set.now.w_gsw }
+        requires count { length columns.now ≡ gsw_count set.now }
         requires shapes { All (IsCipher set.now.degree (rows set.now)) columns.now }
         ensures value { IfOk result (λ gsw. gsw ≡ columns.now) }
         ensures shape { IfOk result (λ gsw. IsGsw set.now gsw) }
@@ -73,5 +84,17 @@ impl Gsw {
         Ok(Gsw {
             columns: forms_of(alloc, ring, set, columns)?,
         })
+    }
+
+    /// Column (r, k), for a row r from 0 to m and a digit k below t.
+    pub fn column(&self, set: &ParamSet, r: u32, k: u32) -> &CipherT
+        requires known { IsSet set.now }
+        requires gsw { IsGsw set.now self.now }
+        requires row { r ≤ rows set.now }
+        requires digit { k < digit_count_of set.now.w_gsw }
+        ensures value { result.now ≡ cipher_at self.now (r * digit_count_of set.now.w_gsw + k) }
+        ensures shape { HasShape set.now.degree (rows set.now + 1) result.now }
+    {
+        &self.columns[r as usize * digit_count(set.w_gsw) as usize + k as usize]
     }
 }

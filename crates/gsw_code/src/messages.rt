@@ -1,23 +1,16 @@
-ghost use Rattle.std.specs.Prelude.{◌≡◌, ◌==◌, ◌+◌, ◌*◌, ◌^◌, ◌<◌, ◌≤◌, length, replicate, IfOk, pos, neg_ℤ, if◌then◌else◌};
+ghost use Rattle.std.specs.Prelude.{◌≡◌, ◌==◌, ◌*◌, ◌^◌, ◌<◌, ◌≤◌, length, map, IfOk, pos, neg_ℤ, if◌then◌else◌};
+ghost use Rattle.std.specs.List.{range_with_len};
 ghost use Rattle.negacyclic.specs.Residues.{residue};
 ghost use Rattle.negacyclic.specs.Ring.{ring_scale};
-ghost use Rattle.spiral_model.specs.Sets.{IsSet, q, digit_count as digit_count_of, rows};
-ghost use Rattle.spiral_model.specs.Ciphertexts.{constant};
+ghost use Rattle.spiral_sets.specs.Sets.{IsSet, q, digit_count as digit_count_of, rows};
+ghost use Rattle.spiral_model.specs.Queries.{column_message};
 ghost use Rattle.regev_code.specs.Shapes.{OfDegree, under};
-ghost use Rattle.gsw_code.specs.Messages.{message_at, messages_of};
 
 use no_memory::NoMemory;
 use regev_code::Secret;
-use ring_poly::{Poly, Q, Ring};
-use spiral_model::ParamSet;
+use ring_poly::{Poly, Ring};
+use spiral_sets::{ParamSet, Q};
 use std::alloc::Global;
-
-/// m, the rows below row 0.
-pub(crate) fn row_count(set: &ParamSet) -> u32
-    ensures { result ≡ rows set.now }
-{
-    if set.pack { 1 } else { set.n }
-}
 
 /// What digit k counts, where the bit is set: 2^(w k), or 0.
 pub(crate) fn power_of(set: &ParamSet, bit: bool, k: u32) -> u64
@@ -38,23 +31,6 @@ fn negative(x: u64) -> u64
     if x == 0 { 0 } else { Q - x }
 }
 
-/// n zeros.
-fn zeros(alloc: Global, n: usize) -> Result<Vec<u64>, NoMemory>
-    ensures { IfOk result (λ v. v.items ≡ replicate n 0) }
-{
-    Ok(vec![in alloc; 0u64; n]?)
-}
-
-/// z as a polynomial: at place 0.
-fn constant_poly(alloc: Global, ring: &Ring, z: u64) -> Result<Poly, NoMemory>
-    requires { z < q }
-    ensures { IfOk result (λ a. a ≡ constant ring.now (pos z)) }
-{
-    let mut coeffs = zeros(alloc, ring.degree())?;
-    coeffs[0] = z;
-    Ok(Poly::from_coeffs(alloc, &coeffs)?)
-}
-
 /// -x a, for a residue x.
 fn negative_multiple(alloc: Global, ring: &Ring, x: u64, a: &Poly) -> Result<Poly, NoMemory>
     requires residue { x < q }
@@ -66,17 +42,16 @@ fn negative_multiple(alloc: Global, ring: &Ring, x: u64, a: &Poly) -> Result<Pol
     Ok(product)
 }
 
-/// The power in row r, and 0 in the others, for row i + 1.
-fn power_in(power: u64, r: u32, i: u32) -> u64
-    requires few { i < 2 ^ 31 }
+/// The power in row r, and 0 in the others.
+fn power_in(power: u64, r: u32, row: u32) -> u64
     requires residue { power < q }
-    ensures value { result ≡ (if i + 1 == r then power else 0) }
+    ensures value { result ≡ (if row == r then power else 0) }
     ensures below { result < q }
 {
-    if i + 1 == r { power } else { 0 }
+    if row == r { power } else { 0 }
 }
 
-/// What row i + 1 encrypts in a column of row r.
+/// What a row, from 1 to m, encrypts in a column of row r.
 fn message(
     alloc: Global,
     ring: &Ring,
@@ -84,40 +59,39 @@ fn message(
     scalar: bool,
     power: u64,
     r: u32,
-    i: u32,
+    row: u32,
 ) -> Result<Poly, NoMemory>
     requires degree { OfDegree ring.now secret.now }
-    requires row_in { i < length (under ring.now secret.now scalar) }
-    requires few { i < 2 ^ 31 }
+    requires first { 1 ≤ row }
+    requires last { row ≤ length (under ring.now secret.now scalar) }
     requires residue { power < q }
-    ensures { IfOk result (λ a. a ≡ message_at ring.now (under ring.now secret.now scalar) power r i) }
+    ensures { IfOk result (λ a. a ≡ column_message ring.now (under ring.now secret.now scalar) power r row) }
 {
     if r == 0 {
-        let key = secret.poly(scalar, i as usize);
+        let key = secret.poly(scalar, row as usize - 1);
         return Ok(negative_multiple(alloc, ring, power, key)?);
     }
-    Ok(constant_poly(alloc, ring, power_in(power, r, i))?)
+    Ok(Poly::constant(alloc, ring.degree(), power_in(power, r, row))?)
 }
 
 /// What rows 1 to m encrypt in a column of row r.
 pub(crate) fn column_messages(
     alloc: Global,
     ring: &Ring,
+    set: &ParamSet,
     secret: &Secret,
-    scalar: bool,
     power: u64,
-    m: u32,
     r: u32,
 ) -> Result<Vec<Poly>, NoMemory>
+    requires known { IsSet set.now }
     requires degree { OfDegree ring.now secret.now }
-    requires secrets { length (under ring.now secret.now scalar) ≡ m }
-    requires few { m < 2 ^ 31 }
+    requires secrets { length (under ring.now secret.now set.now.pack) ≡ rows set.now }
     requires residue { power < q }
-    ensures { IfOk result (λ messages. messages.items ≡ messages_of ring.now (under ring.now secret.now scalar) power m r) }
+    ensures { IfOk result (λ messages. messages.items ≡ map (column_message ring.now (under ring.now secret.now set.now.pack) power r) (range_with_len 1 (rows set.now))) }
 {
     let mut messages = Vec::new(alloc);
-    for i in 0..m {
-        messages.push(message(alloc, ring, secret, scalar, power, r, i)?)?;
+    for i in 0..set.rows() {
+        messages.push(message(alloc, ring, secret, set.pack, power, r, i + 1)?)?;
     }
     Ok(messages)
 }

@@ -1,8 +1,9 @@
 ghost use Rattle.std.specs.Prelude.{◌≡◌, ◌+◌, ◌*◌, ◌<◌, length, map, All};
 ghost use Rattle.std.specs.List.{range_with_len};
 ghost use Rattle.negacyclic.specs.Ring.{ring_sub};
-ghost use Rattle.spiral_model.specs.Sets.{IsSet, q, digit_count as digit_count_of, rows};
-ghost use Rattle.spiral_model.specs.Gadgets.{cipher_add, cipher_at, cipher_sub, digit_sum, external_product, selected};
+ghost use Rattle.spiral_sets.specs.Sets.{IsSet, q, digit_count as digit_count_of, rows};
+ghost use Rattle.spiral_model.specs.Gadgets.{cipher_add, cipher_sub, digit_sum, external_product, selected};
+ghost use Rattle.spiral_model.specs.Words.{cipher_at};
 ghost use Rattle.regev_code.specs.Products.{HasShape};
 ghost use Rattle.gsw_code.specs.Products.{IsGsw};
 
@@ -10,7 +11,7 @@ use crate::Gsw;
 use gadget_digits::digit_count;
 use regev_code::{Cipher, CipherT, Room, Scratch, add_digit_sum, from_form};
 use ring_poly::{Poly, Ring};
-use spiral_model::ParamSet;
+use spiral_sets::ParamSet;
 
 /// Writes high - low.
 fn write_difference(high: &Poly, low: &Poly, out: &mut Poly)
@@ -19,11 +20,13 @@ fn write_difference(high: &Poly, low: &Poly, out: &mut Poly)
     ensures value { out.new ≡ ring_sub q (length high.now) high.now low.now }
     ensures degree { length out.new ≡ length high.now }
 {
-    out.put_coeffs(high.coeffs());
+    out.clear();
+    out.add_assign(high);
     out.sub_assign(low);
 }
 
 /// Adds rows in product form, one by one, with room for one row.
+#[tactic(auto, using(negacyclic::proofs::Filled::filled_all))]
 fn add_rows(ring: &Ring, sum: &CipherT, rows: &mut [Poly], room: &mut Poly)
     requires sum { HasShape ring.now (length rows.old) sum.now }
     requires rows { HasShape ring.now (length rows.old) rows.old }

@@ -1,22 +1,20 @@
-ghost use Rattle.std.specs.Prelude.{◌≡◌, ◌<◌, ◌≤◌, true, false, length, All, IfOk, IsTrue};
-ghost use Rattle.spiral_model.specs.Sets.{IsSet, q};
-ghost use Rattle.spiral_model.specs.Queries.{IsCipher};
+ghost use Rattle.std.specs.Prelude.{◌≡◌, true, false, length, All, IfOk, IsTrue};
+ghost use Rattle.spiral_sets.specs.Sets.{IsSet};
+ghost use Rattle.spiral_model.specs.Ciphertexts.{IsCipher};
 ghost use Rattle.regev_code.specs.Products.{HasShape};
 ghost use Rattle.gsw_code.specs.Products.{IsGsw};
 
 use super::*;
-use regev_code::{Cipher, Draw, Scratch, draw_secret};
-use ring_poly::{Poly, Ring};
-use spiral_model::{ParamSet, set_at};
+use crate::tests::numbers_of;
+use regev_code::{Cipher, Draw, Scratch, draw_secret, is_cipher};
+use ring_poly::{Poly, Q, Ring, are_residues};
+use spiral_sets::{ParamSet, set_at};
 use std::alloc::Global;
 use std::process::Abort;
 use std::test::Fail;
 
 /// edge-256: N = 256, n = 2, no keys, and digits of 7 bits, so t = 8.
 const EDGE: usize = 4;
-
-/// q, as 268369921 * 249561089.
-const MODULUS: u64 = 66974689739603969;
 
 /// How many words the secrets take, 2 * 256, and the 24 columns, 4 * 256 each.
 const WORDS: usize = 25088;
@@ -37,31 +35,10 @@ fn words_of_zero(alloc: Global) -> Result<Vec<u64>, Fail> {
     Ok(words)
 }
 
-#[tactic(auto, unfolding(spiral_model::specs::Sets::q))]
-fn are_residues(numbers: &[u64]) -> bool
-    ensures { IsTrue result → All (λ x. x < q) numbers.now }
-{
-    numbers.iter().all(|x| *x < MODULUS)
-}
-
-fn is_column(c: &Cipher) -> bool
-    ensures { IsTrue result → IsCipher 256 2 c.now }
-{
-    if c.rows() != 3 {
-        return false;
-    }
-    for r in 0..3u32 {
-        if c.row(r).coeffs().len() != 256 {
-            return false;
-        }
-    }
-    true
-}
-
 fn are_columns(columns: &[Cipher]) -> bool
     ensures { IsTrue result → All (IsCipher 256 2) columns.now }
 {
-    columns.iter().all(|c| is_column(c))
+    columns.iter().all(|c| is_cipher(c, 256, 2))
 }
 
 fn has_shape(c: &Cipher) -> bool
@@ -73,7 +50,7 @@ fn has_shape(c: &Cipher) -> bool
 fn are_polynomials(rows: &[Poly]) -> bool
     ensures { IsTrue result → All (λ a. length a ≡ 256) rows.now }
 {
-    rows.iter().all(|a| a.coeffs().len() == 256)
+    rows.iter().all(|a| a.degree() == 256)
 }
 
 /// z at one place, and 0 at the others.
@@ -122,14 +99,15 @@ fn gsw_of(rt: &impl Abort, alloc: Global, set: &ParamSet, bit: bool) -> Result<G
 /// Numbers of a ciphertext: the row, the place, and what stands there.
 type Numbers = &'static [(u32, usize, u64)];
 
-fn holds(rt: &impl Abort, c: &Cipher, numbers: Numbers) {
+fn holds(rt: &impl Abort, alloc: Global, c: &Cipher, numbers: Numbers) -> Result<(), Fail> {
     for number in numbers {
         let (r, place, want) = *number;
         assert!(rt; r < c.rows());
-        let coeffs = c.row(r).coeffs();
+        let coeffs = numbers_of(alloc, c.row(r))?;
         assert!(rt; place < coeffs.len());
         assert_eq!(rt; coeffs[place], want, "row {r}, place {place}");
     }
+    Ok(())
 }
 
 /// G c for the ciphertext c of 5, 300 and 900.
@@ -171,7 +149,7 @@ fn selection(rt: &impl Abort, alloc: Global, set: &ParamSet, bit: bool) -> Resul
 /// Row 0 is 0; row i is c_i - s_i c_0, so minus 5 at the first 11 places of row 1, and 300 - 5 at place 3.
 const PRODUCT: Numbers = &[
     (0, 0, 0),
-    (1, 0, MODULUS - 5),
+    (1, 0, Q - 5),
     (1, 3, 295),
     (1, 11, 0),
     (2, 0, 0),
@@ -179,19 +157,20 @@ const PRODUCT: Numbers = &[
 ];
 
 /// low and the product with (3, 293, 900): minus 3 at the first 11 places of row 1, and 7 + 293 - 3 at place 3.
-const SELECTED: Numbers = &[(0, 0, 2), (1, 0, MODULUS - 3), (1, 3, 297), (2, 200, 900)];
+const SELECTED: Numbers = &[(0, 0, 2), (1, 0, Q - 3), (1, 3, 297), (2, 200, 900)];
 
 #[test]
 fn multiplies_by_a_bit(rt: HostRuntime) -> Result<(), Fail> {
     let alloc = rt.alloc();
     let set = set_at(EDGE);
     assert!(rt; set.degree == 256 && set.n == 2 && set.direct && !set.pack && set.w_gsw == 7);
-    holds(&rt, &product(&rt, alloc, &set, true)?, PRODUCT);
+    holds(&rt, alloc, &product(&rt, alloc, &set, true)?, PRODUCT)?;
     holds(
         &rt,
+        alloc,
         &product(&rt, alloc, &set, false)?,
         &[(1, 0, 0), (1, 3, 0), (2, 200, 0)],
-    );
+    )?;
     Ok(())
 }
 
@@ -200,11 +179,12 @@ fn selects_by_a_bit(rt: HostRuntime) -> Result<(), Fail> {
     let alloc = rt.alloc();
     let set = set_at(EDGE);
     assert!(rt; set.degree == 256 && set.n == 2 && set.direct && !set.pack && set.w_gsw == 7);
-    holds(&rt, &selection(&rt, alloc, &set, true)?, SELECTED);
+    holds(&rt, alloc, &selection(&rt, alloc, &set, true)?, SELECTED)?;
     holds(
         &rt,
+        alloc,
         &selection(&rt, alloc, &set, false)?,
         &[(0, 0, 2), (1, 0, 0), (1, 3, 7), (2, 200, 0)],
-    );
+    )?;
     Ok(())
 }

@@ -1,3 +1,4 @@
+pub mod Places
 pub mod Replies
 pub mod Opening
 pub mod Entries

@@ -1,21 +1,20 @@
 -- The sums that the product of a secret and a polynomial is made of, and the rounding of what they open.
-use Rattle.std.proofs.Common.{sym, ◌≡◌, ℕ, ◌+◌, ◌-◌, ◌*◌, ◌<◌, ◌≤◌, ◌^◌, ℤ, pos, ◌+ℤ◌, ◌-ℤ◌, ◌*ℤ◌, unsigned_abs, List, length, get_or, All, refl, ◌∙◌, ap, arith, to_z, of_z, w8, w64, SFits, mul-le-mul}
+use Rattle.std.proofs.Common.{sym, ◌≡◌, ℕ, ◌+◌, ◌-◌, ◌*◌, ◌<◌, ◌≤◌, ◌^◌, ℤ, pos, ◌+ℤ◌, ◌-ℤ◌, ◌*ℤ◌, unsigned_abs, List, length, get_or, All, refl, arith, to_z, of_z, w8, w64, SFits, mul-le-mul}
 use mir.Syntax.{w128}
 use Rattle.std.proofs.lemmas.Int.{ints, to_z-of_z, to_z_pos, fits_signed_from_abs, unsigned_abs-mul}
 use Rattle.negacyclic.specs.Sums.{total}
 use Rattle.negacyclic.specs.Ring.{at}
 use Rattle.negacyclic.proofs.Sums.{total_more, total_same}
 use Rattle.negacyclic.proofs.Turn.{product_term, product_term-plain, product_term-wrapped}
-use Rattle.negacyclic.specs.Residues.{residue, nearest, floor_div}
-use Rattle.std.specs.Int.{int_div_euclid, int_rem_euclid}
-use Rattle.spiral_model.specs.declared.param_set.ParamSet.{ParamSet}
-use Rattle.spiral_model.specs.Sets.{p, q1, q2}
-use Rattle.spiral_model.specs.Switched.{IsTernary}
-use Rattle.modulus_switch.specs.Opening.{number_at, opened}
+use Rattle.negacyclic.specs.Residues.{residue, nearest}
+use Rattle.negacyclic.proofs.Signed.{kept_64}
+use Rattle.spiral_sets.specs.declared.param_set.ParamSet.{ParamSet}
+use Rattle.spiral_sets.specs.Sets.{p, q1, q2}
+use Rattle.spiral_model.specs.Replies.{IsTernary, opened}
+use Rattle.modulus_switch.specs.Numbers.{secret_number}
 
 -- a number of the secret as an index reads it
-ternary_read : (secret : List ℤ) (i : ℕ) → All IsTernary secret → i < length secret → to_z w8 (of_z w8 (get_or secret i (pos 0))) ≡ number_at secret i
-unfolding number_at
+ternary_read : (secret : List ℤ) (i : ℕ) → All IsTernary secret → i < length secret → to_z w8 (of_z w8 (get_or secret i (pos 0))) ≡ secret_number secret i
 ternary_read secret i all h =
     let small : unsigned_abs (get_or secret i (pos 0)) ≤ 1 = all i (pos 0) h in
     to_z-of_z w8 (get_or secret i (pos 0)) (fits_signed_from_abs w8 (get_or secret i (pos 0)) (omega arith))
@@ -26,39 +25,32 @@ at_read a i = refl
 
 -- one more term that doesn't wrap
 pub plain_step : (secret : List ℤ) (a : List ℕ) (k i : ℕ) (sum term : ℤ) → i < length secret → All IsTernary secret
-    → sum ≡ total i (λ j. number_at secret j *ℤ at a (k - j))
+    → sum ≡ total i (λ j. secret_number secret j *ℤ at a (k - j))
     → term ≡ to_z w8 (of_z w8 (get_or secret i (pos 0))) *ℤ pos (get_or a (k - i) 0)
-    → sum +ℤ term ≡ total (i + 1) (λ j. number_at secret j *ℤ at a (k - j))
+    → sum +ℤ term ≡ total (i + 1) (λ j. secret_number secret j *ℤ at a (k - j))
 plain_step secret a k i sum term h all front read =
-    let more = total_more i (λ j. number_at secret j *ℤ at a (k - j)) in
+    let more = total_more i (λ j. secret_number secret j *ℤ at a (k - j)) in
     let s = ternary_read secret i all h in
     let b = at_read a (k - i) in cc
 
 -- the terms that don't wrap are the first k + 1 of the product's
 pub plain_terms_are : (secret : List ℤ) (a : List ℕ) (N k : ℕ)
-    → total (k + 1) (λ i. number_at secret i *ℤ at a (k - i)) ≡ total (k + 1) (product_term N (number_at secret) (at a) k)
+    → total (k + 1) (λ i. secret_number secret i *ℤ at a (k - i)) ≡ total (k + 1) (product_term N (secret_number secret) (at a) k)
 plain_terms_are secret a N k =
-    total_same (k + 1) (λ i. number_at secret i *ℤ at a (k - i)) (product_term N (number_at secret) (at a) k)
-    (λ i h. sym (product_term-plain N (number_at secret) (at a) k i (omega arith)))
+    total_same (k + 1) (λ i. secret_number secret i *ℤ at a (k - i)) (product_term N (secret_number secret) (at a) k)
+    (λ i h. sym (product_term-plain N (secret_number secret) (at a) k i (omega arith)))
 
 -- one more term that wraps
 pub wrapped_step : (secret : List ℤ) (a : List ℕ) (N k i : ℕ) (sum term : ℤ) → k < i → i < length secret → All IsTernary secret
-    → sum ≡ total i (product_term N (number_at secret) (at a) k)
+    → sum ≡ total i (product_term N (secret_number secret) (at a) k)
     → term ≡ to_z w8 (of_z w8 (get_or secret i (pos 0))) *ℤ pos (get_or a (N + k - i) 0)
-    → sum -ℤ term ≡ total (i + 1) (product_term N (number_at secret) (at a) k)
+    → sum -ℤ term ≡ total (i + 1) (product_term N (secret_number secret) (at a) k)
 wrapped_step secret a N k i sum term wraps h all front read =
-    let more = total_more i (product_term N (number_at secret) (at a) k) in
-    let here = product_term-wrapped N (number_at secret) (at a) k i wraps in
+    let more = total_more i (product_term N (secret_number secret) (at a) k) in
+    let here = product_term-wrapped N (secret_number secret) (at a) k i wraps in
     let s = ternary_read secret i all h in
     let b = at_read a (N + k - i) in
-    let same : term ≡ number_at secret i *ℤ at a (N + k - i) = cc in omega (arith, ints)
-
--- a whole number that is small enough stays as it is in an i64 and in an i128
-kept_64 : (z : ℤ) → unsigned_abs z < 2 ^ 63 → to_z w64 (of_z w64 z) ≡ z
-kept_64 z small = to_z-of_z w64 z (fits_signed_from_abs w64 z small)
-
-kept_128 : (z : ℤ) → unsigned_abs z < 2 ^ 127 → to_z w128 (of_z w128 z) ≡ z
-kept_128 z small = to_z-of_z w128 z (fits_signed_from_abs w128 z small)
+    let same : term ≡ secret_number secret i *ℤ at a (N + k - i) = cc in omega (arith, ints)
 
 difference_bound : (x : ℕ) (y : ℤ) → x ≤ 2 ^ 60 → unsigned_abs y ≤ 2 ^ 58 → unsigned_abs (pos x -ℤ y) ≤ 2 ^ 61
 difference_bound x y left right = omega (arith, ints)
@@ -86,26 +78,6 @@ difference_is first second b sa first_most second_most number product =
     let e3 = kept_64 (pos first *ℤ sa) (omega arith) in
     let e4 = to_z_pos w64 (second * b) (omega arith) in
     let e5 = kept_64 (pos (second * b) -ℤ pos first *ℤ sa) (omega arith) in rw (e1, e2, e3, e4, e5) refl
-
--- the rounding as the code computes it
-pub nearest_is : (z wide rounded modular out : ℤ) (d modulus : ℕ) → unsigned_abs z ≤ 2 ^ 100 → d < 2 ^ 64 → modulus < 2 ^ 64
-    → SFits w128 rounded → SFits w128 out → wide ≡ pos d → modular ≡ pos modulus
-    → rounded ≡ int_div_euclid (to_z w128 (of_z w128 (to_z w128 (of_z w128 (pos 2 *ℤ to_z w128 (of_z w128 z))) +ℤ to_z w128 (of_z w128 wide)))) (to_z w128 (of_z w128 (pos 2 *ℤ to_z w128 (of_z w128 wide))))
-    → out ≡ int_rem_euclid (to_z w128 (of_z w128 rounded)) (to_z w128 (of_z w128 modular))
-    → unsigned_abs (to_z w128 (of_z w128 out)) ≡ residue modulus (nearest z d)
-unfolding residue nearest floor_div
-nearest_is z wide rounded modular out d modulus small d_small modulus_small fits out_fits wide_is modular_is rounded_is out_is =
-    let e1 = kept_128 z (omega arith) in
-    let e2 : to_z w128 (of_z w128 wide) ≡ pos d = ap (λ (y : ℤ). to_z w128 (of_z w128 y)) wide_is ∙ kept_128 (pos d) (omega arith) in
-    let e3 = kept_128 (pos 2 *ℤ z) (omega (arith, ints)) in
-    let e4 = kept_128 (pos 2 *ℤ z +ℤ pos d) (omega (arith, ints)) in
-    let e5 : to_z w128 (of_z w128 (pos (2 * d))) ≡ pos (2 * d) = kept_128 (pos (2 * d)) (omega arith) in
-    let e6 = to_z-of_z w128 rounded fits in
-    let e7 : to_z w128 (of_z w128 modular) ≡ pos modulus = ap (λ (y : ℤ). to_z w128 (of_z w128 y)) modular_is ∙ kept_128 (pos modulus) (omega arith) in
-    let e8 = to_z-of_z w128 out out_fits in
-    let r : rounded ≡ int_div_euclid (pos 2 *ℤ z +ℤ pos d) (pos (2 * d)) = rw (e1, e2, e3, e4, e5) at rounded_is in
-    let o : out ≡ int_rem_euclid rounded (pos modulus) = rw (e6, e7) at out_is in
-    ap unsigned_abs (e8 ∙ o ∙ ap (λ (y : ℤ). int_rem_euclid y (pos modulus)) r)
 
 -- an opened number as the code computes it, with first, second and third the moduli p, q1 and q2
 pub opened_is : (set : ParamSet) (first second third b : ℕ) (sa difference x : ℤ) → first ≡ p set → second ≡ q1 set → third ≡ q2 set

@@ -1,16 +1,11 @@
 -- The modulus switch of a residue.
-use Rattle.std.proofs.Common.{◌≡◌, ◌<◌, ◌^◌, ◌*◌, ℕ, ℤ, pos, arith, ◌∙◌, ap, to_z, of_z, SFits}
+use Rattle.std.proofs.Common.{◌≡◌, ◌<◌, ◌*◌, ℕ, ℤ, pos, ◌∙◌, ap, to_z, of_z, SFits}
 use Rattle.std.proofs.lemmas.Int.{to_z-of_z}
 use mir.Syntax.{w128}
 use Rattle.negacyclic.specs.Residues.{residue, nearest}
 use Rattle.negacyclic.proofs.Residues.{residue-below}
-use Rattle.spiral_model.specs.Sets.{q}
-use Rattle.spiral_model.specs.Switched.{switched}
-
--- q has 56 bits
-pub residue_size : (c : ℕ) → c < q → c < 2 ^ 56
-unfolding q
-residue_size c below = omega arith
+use Rattle.spiral_sets.specs.Sets.{q}
+use Rattle.spiral_model.specs.Replies.{switched}
 
 pub switched_is : (c m result : ℕ) (z : ℤ) → SFits w128 z → z ≡ pos (c * m) → result ≡ residue m (nearest (to_z w128 (of_z w128 z)) q) → result ≡ switched m c
 unfolding switched

@@ -4,6 +4,7 @@
 
 mod open;
 mod reply;
+mod rounding;
 mod state;
 mod switch;
 #[cfg(test)]

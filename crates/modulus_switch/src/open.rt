@@ -1,15 +1,16 @@
-ghost use Rattle.std.specs.Prelude.{◌≡◌, ◌+◌, ◌-◌, ◌*◌, ◌^◌, ◌<◌, ◌≤◌, length, All, unsigned_abs, pos, ◌-ℤ◌, ◌*ℤ◌, IfOk};
+ghost use Rattle.std.specs.Prelude.{◌≡◌, ◌+◌, ◌-◌, ◌*◌, ◌^◌, ◌<◌, ◌≤◌, length, map, All, unsigned_abs, pos, ◌-ℤ◌, ◌*ℤ◌, IfOk};
+ghost use Rattle.std.specs.List.{range_with_len};
 ghost use Rattle.negacyclic.specs.Sums.{total};
 ghost use Rattle.negacyclic.specs.Ring.{at, product_at};
-ghost use Rattle.negacyclic.specs.Residues.{residue, nearest};
-ghost use Rattle.spiral_model.specs.Sets.{IsSet, p, entries, values_count};
-ghost use Rattle.spiral_model.specs.Switched.{IsTernary, opened_entry, opened_values, open_bytes};
-ghost use Rattle.modulus_switch.specs.Opening.{number_at, opened, opened_numbers};
+ghost use Rattle.spiral_sets.specs.Sets.{IsSet, p, entries, values_count};
+ghost use Rattle.spiral_model.specs.Replies.{IsTernary, opened, opened_entry, opened_values, open_bytes};
+ghost use Rattle.modulus_switch.specs.Numbers.{secret_number, opened_number};
 
 use crate::reply::zeros;
+use crate::rounding::nearest_residue;
 use crate::{ClientState, Reply};
 use no_memory::NoMemory;
-use spiral_model::ParamSet;
+use spiral_sets::ParamSet;
 use std::alloc::Global;
 
 /// s a for a number s of the secret.
@@ -29,7 +30,7 @@ fn plain_terms(secret: &[i8], a: &[u64], k: usize) -> i64
     requires place { k < length a.now }
     requires ternary { All IsTernary secret.now }
     requires below { All (λ x. x < 2 ^ 30) a.now }
-    ensures value { result ≡ total (k + 1) (λ i. number_at secret.now i *ℤ at a.now (k - i)) }
+    ensures value { result ≡ total (k + 1) (λ i. secret_number secret.now i *ℤ at a.now (k - i)) }
     ensures size { unsigned_abs result ≤ (k + 1) * 2 ^ 30 }
 {
     let mut sum = 0i64;
@@ -48,7 +49,7 @@ fn secret_product(secret: &[i8], a: &[u64], k: usize) -> i64
     requires place { k < length a.now }
     requires ternary { All IsTernary secret.now }
     requires below { All (λ x. x < 2 ^ 30) a.now }
-    ensures value { result ≡ product_at (length a.now) (number_at secret.now) (at a.now) k }
+    ensures value { result ≡ product_at (length a.now) (secret_number secret.now) (at a.now) k }
     ensures size { unsigned_abs result ≤ 2 ^ 41 }
 {
     let mut sum = plain_terms(secret, a, k);
@@ -56,14 +57,6 @@ fn secret_product(secret: &[i8], a: &[u64], k: usize) -> i64
         sum -= signed(secret[i], a[a.len() + k - i]);
     }
     sum
-}
-
-/// 2^bits.
-fn power(bits: u32) -> u64
-    requires { bits ≤ 30 }
-    ensures { result ≡ 2 ^ bits }
-{
-    1 << bits
 }
 
 /// x y, which fits an i128 for every two of the numbers.
@@ -85,19 +78,7 @@ fn scaled_difference(q1: u64, q2: u64, b: u64, sa: i64) -> i64
     (q2 * b) as i64 - q1 as i64 * sa
 }
 
-/// z / d rounded to the nearest number, an exact half upwards, modulo `modulus`.
-pub(crate) fn nearest_residue(z: i128, d: u64, modulus: u64) -> u64
-    requires size { unsigned_abs z ≤ 2 ^ 100 }
-    requires divisor { 0 < d }
-    requires modulus { 0 < modulus }
-    ensures { result ≡ residue modulus (nearest z d) }
-{
-    let wide = i128::from(d);
-    let rounded = (2 * z + wide).div_euclid(2 * wide);
-    rounded.rem_euclid(i128::from(modulus)) as u64
-}
-
-/// What a number b of an entry opens to, with sa the product of the secret and row 0 at its place: x / (q1 q2)
+/// What a number b of an entry opens to, with sa the product of the secret and the mask at its place: x / (q1 q2)
 /// rounded to the nearest number, an exact half upwards, modulo p, where x = p (q2 b - q1 sa).
 ///
 /// p ≤ 2^15, q1 ≤ 2^17 and q2 ≤ 2^30 in every set, so x stays below 2^76, far within an i128.
@@ -107,27 +88,27 @@ fn opened_value(set: &ParamSet, b: u64, sa: i64) -> u64
     requires product { unsigned_abs sa ≤ 2 ^ 41 }
     ensures { result ≡ opened set.now (pos b) sa }
 {
-    let p = power(set.p_bits);
-    let q1 = power(set.p_bits + 2);
-    let q2 = power(set.q2_bits);
+    let p = set.p();
+    let q1 = set.q1();
+    let q2 = set.q2();
     let x = times(p as i64, scaled_difference(q1, q2, b, sa));
     nearest_residue(x, q1 * q2, p)
 }
 
-/// Writes what the numbers b of an entry open to, with a the numbers of row 0 in its column.
-fn open_numbers(set: &ParamSet, secret: &[i8], a: &[u64], b: &[u64], out: &mut [u64])
+/// Writes what the numbers b of an entry open to, with the numbers of the mask in its column.
+fn open_numbers(set: &ParamSet, secret: &[i8], mask: &[u64], b: &[u64], out: &mut [u64])
     requires known { IsSet set.now }
     requires secret_length { length secret.now ≡ set.now.degree }
-    requires a_length { length a.now ≡ set.now.degree }
+    requires mask_length { length mask.now ≡ set.now.degree }
     requires b_length { length b.now ≡ set.now.degree }
     requires out_length { length out.old ≡ set.now.degree }
     requires ternary { All IsTernary secret.now }
-    requires a_below { All (λ x. x < 2 ^ 30) a.now }
+    requires mask_below { All (λ x. x < 2 ^ 30) mask.now }
     requires b_below { All (λ x. x < 2 ^ 30) b.now }
-    ensures { out.new ≡ opened_numbers set.now secret.now a.now b.now }
+    ensures { out.new ≡ map (opened_number set.now secret.now mask.now b.now) (range_with_len 0 set.now.degree) }
 {
     for k in 0..out.len() {
-        out[k] = opened_value(set, b[k], secret_product(secret, a, k));
+        out[k] = opened_value(set, b[k], secret_product(secret, mask, k));
     }
 }
 
@@ -144,9 +125,9 @@ fn open_entry(state: &ClientState, reply: &Reply, e: u32, out: &mut [u64])
     let column = e % set.n;
     let start = row as usize * degree;
     let secret = &state.secret[start..start + degree];
-    let a = reply.numbers(0, column + 1);
+    let mask = reply.numbers(0, column + 1);
     let b = reply.numbers(row + 1, column + 1);
-    open_numbers(set, secret, a, b, out);
+    open_numbers(set, secret, mask, b, out);
 }
 
 /// Writes the values of all entries, row by row. They are below p.
@@ -158,7 +139,7 @@ fn open_entries(state: &ClientState, reply: &Reply, out: &mut [u64])
 {
     let set = reply.set();
     let degree = set.degree as usize;
-    for e in 0..set.n * set.n {
+    for e in 0..set.entries() {
         let start = e as usize * degree;
         open_entry(state, reply, e, &mut out[start..start + degree]);
     }
@@ -178,7 +159,7 @@ pub fn open_matrix(alloc: Global, state: &ClientState, reply: &Reply) -> Result<
     ensures { IfOk result (λ bytes. bytes.items ≡ open_bytes state.now reply.now) }
 {
     let set = reply.set();
-    let mut values = zeros(alloc, (set.n * set.n * set.degree) as usize)?;
+    let mut values = zeros(alloc, (set.entries() * set.degree) as usize)?;
     open_entries(state, reply, &mut values);
     let mut bytes = zero_bytes(alloc, reply.length() as usize)?;
     bit_packing::pack(&values, set.p_bits, &mut bytes);

@@ -1,11 +1,12 @@
-ghost use Rattle.std.specs.Prelude.{◌≡◌, ◌+◌, ◌*◌, ◌^◌, ◌<◌, ◌≤◌, length, replicate, map, slice_set, slice_index_or, [], All, IfOk};
-ghost use Rattle.spiral_model.specs.Sets.{IsSet, q, max_records, capacity, entries};
-ghost use Rattle.spiral_model.specs.Switched.{poly_place, modulus_at, switched, IsSwitched, IsReply};
+ghost use Rattle.std.specs.Prelude.{◌≡◌, ◌*◌, ◌^◌, ◌<◌, ◌≤◌, length, replicate, map, All, IfOk};
+ghost use Rattle.spiral_sets.specs.Sets.{IsSet, max_records, capacity, entries};
+ghost use Rattle.spiral_model.specs.Replies.{switched, IsSwitched, IsReply};
+ghost use Rattle.modulus_switch.specs.Places.{place_in_body, poly_in, put_poly, row_modulus, zero_reply};
 
-use crate::switch::{modulus_at as modulus_of, switch_into};
+use crate::switch::switch_all;
 use no_memory::NoMemory;
 use ring_poly::Poly;
-use spiral_model::ParamSet;
+use spiral_sets::ParamSet;
 use std::alloc::Global;
 use std::marker::Model;
 
@@ -16,17 +17,24 @@ struct Numbers {
 }
 
 impl Model for Numbers {
-    ghost use Rattle.std.specs.Prelude.{List, ℕ};
+    ghost use Rattle.spiral_model.specs.Words.{Poly};
 
-    ghost Value = { List ℕ };
+    ghost Value = { Poly };
 
     ghost view = { λ a. a.items.items };
 }
 
 impl Numbers {
-    /// Becomes the residues switched to a modulus.
-    fn switch(&mut self, a: &[u64], m: u64)
-        requires residues { All (λ c. c < q) a.now }
+    /// Becomes these numbers, as many as it had.
+    fn put(&mut self, numbers: &[u64])
+        requires { length numbers.now ≡ length self.old }
+        ensures { self.new ≡ numbers.now }
+    {
+        self.items.copy_from_slice(numbers);
+    }
+
+    /// Becomes the coefficients of a polynomial switched to a modulus, as many as it had.
+    fn switch(&mut self, a: &Poly, m: u64)
         requires some { 0 < m }
         requires most { m ≤ 2 ^ 30 }
         requires room { length self.old ≡ length a.now }
@@ -34,7 +42,8 @@ impl Numbers {
         ensures degree { length self.new ≡ length a.now }
         ensures below { All (λ x. x < m) self.new }
     {
-        switch_into(a, m, &mut self.items);
+        a.coeffs_into(&mut self.items);
+        switch_all(&mut self.items, m);
     }
 }
 
@@ -45,18 +54,20 @@ pub struct Reply {
     set: ParamSet,
     count: u32,
     record_length: u32,
-    /// rows 1 to n row by row, then row 0
-    polys: Vec<Numbers>,
+    /// rows 1 to n, row by row
+    body: Vec<Numbers>,
+    /// row 0
+    mask: Vec<Numbers>,
 }
 
 impl Model for Reply {
-    ghost use Rattle.spiral_model.specs.Switched.{SwitchedReply, IsReply};
+    ghost use Rattle.spiral_model.specs.Replies.{SwitchedReply, IsReply};
 
     ghost Value = { SwitchedReply };
 
-    ghost view = { λ r. record { set = r.set; count = r.count; record_length = r.record_length; polys = r.polys.items } };
+    ghost view = { λ r. record { set = r.set; count = r.count; record_length = r.record_length; body = r.body.items; mask = r.mask.items } };
 
-    ghost invariant = { λ r. IsReply (record { set = r.set; count = r.count; record_length = r.record_length; polys = r.polys.items }) };
+    ghost invariant = { λ r. IsReply (record { set = r.set; count = r.count; record_length = r.record_length; body = r.body.items; mask = r.mask.items }) };
 }
 
 /// So many zeros.
@@ -67,11 +78,11 @@ pub(crate) fn zeros(alloc: Global, count: usize) -> Result<Vec<u64>, NoMemory>
 }
 
 /// So many polynomials of zeros.
-fn zero_polys(alloc: Global, count: usize, degree: usize) -> Result<Vec<Numbers>, NoMemory>
+fn zero_polys(alloc: Global, count: u32, degree: usize) -> Result<Vec<Numbers>, NoMemory>
     ensures { IfOk result (λ v. v.items ≡ replicate count (replicate degree 0)) }
 {
     let mut polys = Vec::new(alloc);
-    for place in 0..count {
+    for _ in 0..count {
         polys.push(Numbers {
             items: zeros(alloc, degree)?,
         })?;
@@ -79,21 +90,17 @@ fn zero_polys(alloc: Global, count: usize, degree: usize) -> Result<Vec<Numbers>
     Ok(polys)
 }
 
-/// Where the polynomial of a row (from 0) and a column (from 1) stands.
-fn place_of(set: &ParamSet, row: u32, column: u32) -> usize
+/// Where the polynomial of a row and a column, both from 1, stands in the body.
+fn body_place(set: &ParamSet, row: u32, column: u32) -> usize
     requires known { IsSet set.now }
+    requires first_row { 1 ≤ row }
     requires row { row ≤ set.now.n }
     requires first_column { 1 ≤ column }
     requires column { column ≤ set.now.n }
-    ensures value { result ≡ poly_place set.now row column }
-    ensures within { result < entries set.now + set.now.n }
+    ensures value { result ≡ place_in_body set.now row column }
+    ensures within { result < entries set.now }
 {
-    let before = if row == 0 {
-        set.n * set.n
-    } else {
-        (row - 1) * set.n
-    };
-    (before + (column - 1)) as usize
+    ((row - 1) * set.n + (column - 1)) as usize
 }
 
 impl Reply {
@@ -103,14 +110,16 @@ impl Reply {
         requires count { count ≤ max_records set.now }
         requires some_length { 0 < length }
         requires length { length ≤ capacity set.now }
-        ensures { IfOk result (λ r. r ≡ record { set = set.now; count = count; record_length = length; polys = replicate (entries set.now + set.now.n) (replicate set.now.degree 0) }) }
+        ensures { IfOk result (λ r. r ≡ zero_reply set.now count length) }
     {
-        let polys = zero_polys(alloc, (set.n * set.n + set.n) as usize, set.degree as usize)?;
+        let body = zero_polys(alloc, set.entries(), set.degree as usize)?;
+        let mask = zero_polys(alloc, set.n, set.degree as usize)?;
         Ok(Reply {
             set: *set,
             count,
             record_length: length,
-            polys,
+            body,
+            mask,
         })
     }
 
@@ -146,12 +155,16 @@ impl Reply {
         requires row { row ≤ self.now.set.n }
         requires first_column { 1 ≤ column }
         requires column { column ≤ self.now.set.n }
-        ensures value { result.now ≡ slice_index_or self.now.polys (poly_place self.now.set row column) [] }
-        ensures switched { IsSwitched self.now.set (poly_place self.now.set row column) result.now }
+        ensures value { result.now ≡ poly_in self.now row column }
+        ensures switched { IsSwitched self.now.set.degree (row_modulus self.now.set row) result.now }
     {
-        let place = place_of(&self.set, row, column);
-        let poly = &self.polys[place];
-        &poly.items
+        if row == 0 {
+            let poly = &self.mask[column as usize - 1];
+            &poly.items
+        } else {
+            let entry = &self.body[body_place(&self.set, row, column)];
+            &entry.items
+        }
     }
 
     /// Puts the numbers of the polynomial in a row (from 0) and a column (from 1). It takes no memory.
@@ -160,12 +173,17 @@ impl Reply {
         requires first_column { 1 ≤ column }
         requires column { column ≤ self.old.set.n }
         requires degree { length numbers.now ≡ self.old.set.degree }
-        requires below { All (λ x. x < modulus_at self.old.set (poly_place self.old.set row column)) numbers.now }
-        ensures { self.new ≡ record self.old { polys = slice_set self.old.polys (poly_place self.old.set row column) numbers.now } }
+        requires below { All (λ x. x < row_modulus self.old.set row) numbers.now }
+        ensures { self.new ≡ put_poly self.old row column numbers.now }
     {
-        let place = place_of(&self.set, row, column);
-        let poly = &mut self.polys[place];
-        poly.items.copy_from_slice(numbers);
+        if row == 0 {
+            let poly = &mut self.mask[column as usize - 1];
+            poly.put(numbers);
+        } else {
+            let place = body_place(&self.set, row, column);
+            let entry = &mut self.body[place];
+            entry.put(numbers);
+        }
     }
 
     /// Switches a polynomial of the result to the modulus of a row (from 0), q1 in rows 1 to n and q2 in row 0, and puts
@@ -175,11 +193,17 @@ impl Reply {
         requires first_column { 1 ≤ column }
         requires column { column ≤ self.old.set.n }
         requires degree { length a.now ≡ self.old.set.degree }
-        ensures { self.new ≡ record self.old { polys = slice_set self.old.polys (poly_place self.old.set row column) (map (switched (modulus_at self.old.set (poly_place self.old.set row column))) a.now) } }
+        ensures { self.new ≡ put_poly self.old row column (map (switched (row_modulus self.old.set row)) a.now) }
     {
-        let place = place_of(&self.set, row, column);
-        let m = modulus_of(&self.set, place);
-        let poly = &mut self.polys[place];
-        poly.switch(a.coeffs(), m);
+        if row == 0 {
+            let m = self.set.q2();
+            let poly = &mut self.mask[column as usize - 1];
+            poly.switch(a, m);
+        } else {
+            let m = self.set.q1();
+            let place = body_place(&self.set, row, column);
+            let entry = &mut self.body[place];
+            entry.switch(a, m);
+        }
     }
 }

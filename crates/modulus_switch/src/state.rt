@@ -1,4 +1,4 @@
-use spiral_model::ParamSet;
+use spiral_sets::ParamSet;
 use std::marker::Model;
 
 /// What the client keeps of a query until the reply comes: the set, the index that it asked for, and the
@@ -11,7 +11,7 @@ pub struct ClientState {
 }
 
 impl Model for ClientState {
-    ghost use Rattle.spiral_model.specs.Switched.{QueryState, IsState};
+    ghost use Rattle.spiral_model.specs.Replies.{QueryState, IsState};
 
     ghost Value = { QueryState };
 

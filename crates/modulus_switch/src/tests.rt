@@ -1,10 +1,10 @@
-ghost use Rattle.std.specs.Prelude.{◌≡◌, ◌<◌, All, IfOk, IfSome, IsTrue};
-ghost use Rattle.spiral_model.specs.Sets.{IsSet, q};
+ghost use Rattle.std.specs.Prelude.{◌≡◌, ◌<◌, length, All, IfOk, IfSome, IsTrue};
+ghost use Rattle.spiral_sets.specs.Sets.{IsSet};
 
 use super::*;
 use no_memory::NoMemory;
-use ring_poly::{Poly, Q};
-use spiral_model::{ParamSet, set_at};
+use ring_poly::{Poly, Q, are_residues};
+use spiral_sets::{ParamSet, set_at};
 use std::alloc::Global;
 use std::process::Abort;
 use std::test::Fail;
@@ -163,15 +163,10 @@ fn keeps_the_other_places(rt: HostRuntime) -> Result<(), Fail> {
     Ok(())
 }
 
-#[tactic(auto, unfolding(spiral_model::specs::Sets::q))]
-fn are_residues(numbers: &[u64]) -> bool
-    ensures { IsTrue result → All (λ x. x < q) numbers.now }
-{
-    numbers.iter().all(|x| *x < Q)
-}
-
 /// The polynomial with these coefficients in front, and 0 behind them.
-fn poly_of(rt: &impl Abort, alloc: Global, front: &[u64]) -> Result<Poly, Fail> {
+fn poly_of(rt: &impl Abort, alloc: Global, front: &[u64]) -> Result<Poly, Fail>
+    ensures { IfOk result (λ a. length a ≡ 256) }
+{
     let mut numbers = front.to_vec(alloc)?;
     numbers.resize(256, 0)?;
     assert!(rt; numbers.len() == 256);
@@ -198,7 +193,6 @@ fn puts_a_polynomial_of_the_result(rt: HostRuntime) -> Result<(), Fail> {
     let mask = [10 * delta, HALF_Q2, HALF_Q2 + 1, Q - 1];
     let body = poly_of(&rt, alloc, &body)?;
     let mask = poly_of(&rt, alloc, &mask)?;
-    assert!(rt; body.coeffs().len() == 256 && mask.coeffs().len() == 256);
     reply.put(1, 2, &body);
     reply.put(0, 1, &mask);
     assert_eq!(rt; &reply.numbers(1, 2)[..5], [40u64, 0, 1, 0, 0].as_slice());

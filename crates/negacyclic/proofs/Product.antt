@@ -1,10 +1,10 @@
 -- Laws of the negacyclic product over whole numbers.
-use Rattle.std.proofs.Common.{◌≡◌, ℕ, zero, suc, ◌+◌, ◌-◌, ◌<◌, ◌==◌, ℤ, pos, ◌+ℤ◌, ◌-ℤ◌, ◌*ℤ◌, neg_ℤ, if◌then◌else◌, sym, ◌∙◌, ap, ap₂, arith, add_comm, ne_eqb, zero-le}
+use Rattle.std.proofs.Common.{◌≡◌, ℕ, zero, suc, ◌+◌, ◌-◌, ◌<◌, ◌==◌, ℤ, pos, ◌+ℤ◌, ◌-ℤ◌, ◌*ℤ◌, neg_ℤ, if◌then◌else◌, refl, sym, ◌∙◌, ap, ap₂, arith, add_comm, ne_eqb, zero-le}
 use Rattle.negacyclic.specs.Sums.{total}
 use Rattle.negacyclic.specs.Ring.{turn, product_at}
 use Rattle.negacyclic.proofs.Integers.{ring, one-mul_ℤ, mul_comm_ℤ, mul-assoc_ℤ}
 use Rattle.negacyclic.proofs.Sums.{total_same, total_zero, total_one, total_add, total_sub, total_neg, total_mul, total_swap}
-use Rattle.negacyclic.proofs.Turn.{row_plain}
+use Rattle.negacyclic.proofs.Turn.{row_plain, product_at-same}
 use Rattle.negacyclic.proofs.Gather.{Turns, Turns-turn, Turns-after, Turns-before, Turns-times, moved, gather-moved, gather-product}
 
 -- the order of the factors is free
@@ -164,6 +164,13 @@ product_at-assoc N a b c k h =
 
     exchange : (t x y z : ℤ) → t *ℤ z *ℤ (x *ℤ y) ≡ t *ℤ x *ℤ (y *ℤ z)
     exchange t x y z = simp ring
+
+-- the first two of three factors change places
+pub product_at-left_comm : (N : ℕ) (a b c : ℕ → ℤ) (k : ℕ) → k < N → product_at N a (product_at N b c) k ≡ product_at N b (product_at N a c) k
+product_at-left_comm N a b c k h =
+    sym (product_at-assoc N a b c k h)
+    ∙ product_at-same N (product_at N a b) (product_at N b a) c c k (λ i lt. product_at-comm N a b i) (λ i lt. refl)
+    ∙ product_at-assoc N b a c k h
 
 -- ---- the product and sums of powers
 

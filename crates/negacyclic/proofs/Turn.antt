@@ -64,13 +64,14 @@ turn_flip N k t h =
     ∙ turn_flip_within N k (t % (2 * N)) h (mod-lt t (omega arith))
     ∙ ap neg_ℤ (turn-mod N k t)
 
-one_times : (z : ℤ) → pos 1 *ℤ z ≡ z
+-- 1, -1 and 0 times a number
+pub one_times : (z : ℤ) → pos 1 *ℤ z ≡ z
 one_times z = omega (arith, ints)
 
-minus_times : (z : ℤ) → neg_ℤ (pos 1) *ℤ z ≡ neg_ℤ z
+pub minus_times : (z : ℤ) → neg_ℤ (pos 1) *ℤ z ≡ neg_ℤ z
 minus_times z = omega (arith, ints)
 
-none_times : (z : ℤ) → pos 0 *ℤ z ≡ pos 0
+pub none_times : (z : ℤ) → pos 0 *ℤ z ≡ pos 0
 none_times z = omega (arith, ints)
 
 -- The row of x in a product with b, at a place k from i on: the one term with j = k - i.

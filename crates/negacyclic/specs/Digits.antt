@@ -20,3 +20,7 @@ digits base count x = map (λ k. digit base k x) (range_with_len 0 count)
 -- cut again into count values of `to` bits each; zeros follow the last bit.
 unfoldable pub repacked : ℕ → ℕ → ℕ → List ℕ → List ℕ
 repacked from to count values = digits (2 ^ to) count (number_of (2 ^ from) values)
+
+-- Digit k, of w bits, of each number of a polynomial: floor (x / 2^(w k)) mod 2^w.
+unfoldable pub digit_poly : ℕ → ℕ → List ℕ → List ℕ
+digit_poly w k a = map (digit (2 ^ w) k) a

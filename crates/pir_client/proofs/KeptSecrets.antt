@@ -4,7 +4,7 @@ use Rattle.std.specs.List.{flat_map}
 use Rattle.std.proofs.lemmas.Int.{to_z-of_z, fits_signed_from_abs}
 use Rattle.std.proofs.lemmas.List.{take_more}
 use Rattle.std.proofs.lemmas.List.Elements.{All-head, All-tail, All-push, All-same}
-use Rattle.spiral_model.specs.Switched.{IsTernary}
+use Rattle.spiral_model.specs.Replies.{IsTernary}
 
 -- One more number of a row.
 pub number-more : (row old out new : List ℤ) (place : ℕ) (z : ℤ) → place < length row → z ≡ get_or row place (pos 0) → IsTernary z

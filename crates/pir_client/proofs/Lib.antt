@@ -1,6 +1,6 @@
 pub mod SetNumbers
 pub mod KeptSecrets
 pub mod MessageLists
-pub mod Draws
+pub mod QueryDraws
 pub mod FirstWords
 pub mod QueryShapes

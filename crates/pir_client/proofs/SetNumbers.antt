@@ -1,21 +1,14 @@
--- Numbers of every set, and how many words and ciphertexts a direct set's query takes.
-use Rattle.std.proofs.Common.{◌≡◌, ℕ, ◌+◌, ◌*◌, ◌^◌, ◌<◌, true, false, refl, arith, ltb, ltb-true, sum_by}
-use Rattle.spiral_model.specs.declared.param_set.ParamSet.{ParamSet}
-use Rattle.spiral_model.specs.Sets.{IsSet, q, delta, rows, digit_count}
-use Rattle.spiral_model.specs.Counts.{secret_words, setup_ciphertexts, query_ciphertexts, words_of, words_needed}
-use Rattle.spiral_model.specs.Ciphertexts.{words_taken}
-use Rattle.spiral_model.proofs.EachSet.{each_set}
-use Rattle.pir_client.specs.Drawn.{query_words, query_count}
+-- How many words and ciphertexts the query of a set takes that sends its ciphertexts and doesn't pack, and its secrets.
+use Rattle.std.proofs.Common.{◌≡◌, ℕ, ◌+◌, ◌*◌, true, false, List, refl, arith}
+use Rattle.spiral_sets.specs.declared.param_set.ParamSet.{ParamSet}
+use Rattle.spiral_sets.specs.Sets.{rows}
+use Rattle.spiral_sets.specs.Counts.{firsts_count, gsw_count, ciphertext_count, setup_ciphertexts, query_ciphertexts, words_of}
+use Rattle.spiral_model.specs.Ciphertexts.{words_taken, encrypted_all}
+use Rattle.spiral_model.specs.Queries.{query_messages}
+use Rattle.spiral_model.specs.Dealing.{secret_polys, row_secrets, query_words, query_of}
 
-parts-words : (a m b c T : ℕ) → (a * m + b * c) * T ≡ a * (m * T) + b * (c * T)
-parts-words a m b c T = omega arith
-
--- Delta is a residue
-pub delta-below : (set : ParamSet) → IsSet set → delta set < q
-unfolding q
-delta-below set is =
-    ltb-true (delta set) q
-    (each_set (λ set. ltb (delta set) q ≡ true) (refl, (refl, (refl, (refl, (refl, (refl, (refl, (refl, (refl, (refl, tt)))))))))) set is)
+parts-words : (a b T : ℕ) → (a + b) * T ≡ a * T + b * T
+parts-words a b T = omega arith
 
 -- a set that doesn't pack has a row for each secret
 pub rows-are : (set : ParamSet) → set.pack ≡ false → rows set ≡ set.n
@@ -25,18 +18,28 @@ rows-are set plain = rw plain refl
 pub setup_words-none : (set : ParamSet) → set.direct ≡ true → set.pack ≡ false → words_of set (setup_ciphertexts set) ≡ 0
 setup_words-none set direct plain = rw (direct, plain) refl
 
-pub query_words-are : (set : ParamSet) → set.direct ≡ true → words_of set (query_ciphertexts set) ≡ query_words set set.degree
+-- the words of the first dimension and those of the selections
+pub query_words-are : (set : ParamSet) → set.direct ≡ true
+    → words_of set (query_ciphertexts set) ≡ firsts_count set * words_taken set.degree (rows set) + set.nu2 * gsw_count set * words_taken set.degree (rows set)
 query_words-are set direct = rw direct (omega arith)
 
-pub words_needed-are : (set : ParamSet) → set.direct ≡ true → set.pack ≡ false → words_needed set ≡ secret_words set + query_words set set.degree
-words_needed-are set direct plain =
-    let setup = setup_words-none set direct plain in
-    let query = query_words-are set direct in
-    omega (arith, setup, query)
-
-pub query_count-is : (set : ParamSet) → set.direct ≡ true → sum_by (λ c. c.how_many) (query_ciphertexts set) ≡ query_count set
+pub query_count-is : (set : ParamSet) → set.direct ≡ true → ciphertext_count (query_ciphertexts set) ≡ firsts_count set + set.nu2 * gsw_count set
 query_count-is set direct = rw direct (omega arith)
 
 -- each of those ciphertexts takes as many words
-pub query_count-words : (set : ParamSet) (N : ℕ) → query_count set * words_taken N (rows set) ≡ query_words set N
-query_count-words set N = parts-words (2 ^ set.nu1) (rows set) set.nu2 ((rows set + 1) * digit_count set.w_gsw) (words_taken N (rows set))
+pub query_count-words : (set : ParamSet) → set.direct ≡ true
+    → ciphertext_count (query_ciphertexts set) * words_taken set.degree (rows set) ≡ words_of set (query_ciphertexts set)
+query_count-words set direct =
+    let parts = parts-words (firsts_count set) (set.nu2 * gsw_count set) (words_taken set.degree (rows set)) in
+    let words = query_words-are set direct in
+    rw (query_count-is set direct) (omega (arith, parts, words))
+
+-- the secrets of rows, where the set doesn't pack
+pub row_secrets-plain : (set : ParamSet) (words : List ℕ) → set.pack ≡ false → row_secrets set words ≡ secret_polys set words
+row_secrets-plain set words plain = rw plain refl
+
+-- the query of a set that sends its ciphertexts and doesn't pack
+pub query_of-direct : (set : ParamSet) (words : List ℕ) (index : ℕ) → set.direct ≡ true → set.pack ≡ false
+    → query_of set words index ≡ encrypted_all set.degree words (query_words set) (secret_polys set words) (query_messages set (secret_polys set words) index)
+unfolding query_of
+query_of-direct set words index direct plain = rw (direct, plain) refl

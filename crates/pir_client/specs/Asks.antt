@@ -1,10 +1,10 @@
 -- What a client makes of random words, and why it may not.
 use Rattle.std.specs.Prelude.{ℕ, List, [], ◌≡◌, ◌<◌, ◌≤◌, length, Result, Ok, Err}
-use Rattle.spiral_model.specs.declared.param_set.ParamSet.{ParamSet}
-use Rattle.spiral_model.specs.Sets.{max_records}
-use Rattle.spiral_model.specs.Counts.{words_needed}
-use Rattle.spiral_model.specs.Queries.{state_of, query_body_of}
-use Rattle.spiral_model.specs.Frames.{Spell, query_message}
+use Rattle.spiral_sets.specs.declared.param_set.ParamSet.{ParamSet}
+use Rattle.spiral_sets.specs.Sets.{max_records}
+use Rattle.spiral_sets.specs.Counts.{words_needed}
+use Rattle.spiral_model.specs.Dealing.{state_of, query_body_of}
+use Rattle.spiral_frames.specs.Frames.{Spell, query_message}
 use Rattle.pir_client.specs.declared.asking.Asked.{Asked}
 use Rattle.pir_client.specs.declared.asking.AskError.{AskError}
 use Rattle.pir_client.specs.declared.asking.AskError.TheVariants.{IndexRange, WordsShort, NoMemory}

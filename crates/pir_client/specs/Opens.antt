@@ -1,6 +1,6 @@
 -- What a client opens of a reply, and why it may not.
 use Rattle.std.specs.Prelude.{ℕ, List, ◌≡◌, ◌≢◌, ◌<◌, ◌≤◌, Result, Ok, Err}
-use Rattle.spiral_model.specs.Switched.{QueryState, SwitchedReply, open_bytes}
+use Rattle.spiral_model.specs.Replies.{QueryState, SwitchedReply, open_bytes}
 use Rattle.pir_client.specs.declared.opening.OpenError.{OpenError}
 use Rattle.pir_client.specs.declared.opening.OpenError.TheVariants.{WrongSet, Absent, NoMemory}
 

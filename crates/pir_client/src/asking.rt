@@ -1,6 +1,6 @@
 ghost use Rattle.std.specs.Prelude.{IfOk, take};
-ghost use Rattle.spiral_model.specs.Sets.{IsSet, IsBuilt};
-ghost use Rattle.spiral_model.specs.Counts.{words_needed};
+ghost use Rattle.spiral_sets.specs.Sets.{IsSet, IsBuilt};
+ghost use Rattle.spiral_sets.specs.Counts.{words_needed};
 ghost use Rattle.pir_client.specs.Asks.{Asks, IsAsked};
 
 use crate::query::draw_query;
@@ -10,7 +10,7 @@ use no_memory::NoMemory;
 use pir_wire::encode_query;
 use regev_code::{Draw, draw_secret};
 use ring_poly::Ring;
-use spiral_model::ParamSet;
+use spiral_sets::ParamSet;
 use std::alloc::Global;
 use thiserror::Error;
 

@@ -1,9 +1,8 @@
-ghost use Rattle.std.specs.Prelude.{◌≡◌, ◌≢◌, true, false};
 ghost use Rattle.pir_client.specs.Opens.{Opens};
 
 use modulus_switch::{ClientState, Reply, open_matrix};
 use no_memory::NoMemory;
-use spiral_model::ParamSet;
+use spiral_sets::ParamSet;
 use std::alloc::Global;
 use thiserror::Error;
 
@@ -29,21 +28,13 @@ impl From<NoMemory> for OpenError {
     }
 }
 
-// Whether two sets are the same.
-fn same_set(a: &ParamSet, b: &ParamSet) -> bool
-    ensures same { result ≡ true → a.now ≡ b.now }
-    ensures another { result ≡ false → a.now ≢ b.now }
-{
-    a == b
-}
-
 /// The record that a reply holds for the state of its query: each value opened by the secret, the values as bytes, cut
 /// to the record's length.
 pub fn open(alloc: Global, state: &ClientState, reply: &Reply) -> Result<Vec<u8>, OpenError>
     ensures { Opens (λ bytes. bytes.items) state.now reply.now result }
 {
     let found = reply.set();
-    if !same_set(&state.set, &found) {
+    if !state.set.is(&found) {
         return Err(OpenError::WrongSet {
             expected: state.set,
             found,

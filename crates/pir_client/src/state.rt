@@ -1,13 +1,13 @@
 ghost use Rattle.std.specs.Prelude.{◌≡◌, ◌++◌, ◌<◌, ◌≤◌, length, All, OnOk, IfOk};
 ghost use Rattle.std.specs.List.{flat_map};
-ghost use Rattle.spiral_model.specs.Sets.{IsSet, max_records};
-ghost use Rattle.spiral_model.specs.Switched.{IsTernary};
+ghost use Rattle.spiral_sets.specs.Sets.{IsSet, max_records};
+ghost use Rattle.spiral_model.specs.Replies.{IsTernary};
 ghost use Rattle.regev_code.specs.Shapes.{OfDegree, secret_row};
 
 use modulus_switch::ClientState;
 use no_memory::NoMemory;
 use regev_code::Secret;
-use spiral_model::ParamSet;
+use spiral_sets::ParamSet;
 use std::alloc::Global;
 
 /// Appends the N numbers of the secret s_r.

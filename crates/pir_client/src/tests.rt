@@ -1,10 +1,10 @@
 ghost use Rattle.std.specs.Prelude.{◌<◌};
-ghost use Rattle.spiral_model.specs.Sets.{IsSet};
+ghost use Rattle.spiral_sets.specs.Sets.{IsSet};
 
 use super::*;
 use modulus_switch::{ClientState, Reply};
 use no_memory::NoMemory;
-use spiral_model::{ParamSet, set_at};
+use spiral_sets::{ParamSet, set_at};
 use std::alloc::Global;
 use std::test::Fail;
 

@@ -1,5 +1,6 @@
--- What is only read stays, over one call after another.
-use Rattle.std.proofs.Common.{ℕ, List, [], IsTrue, ◌≡◌, ◌≤◌, unwrap_or, ap, sym, ◌∙◌, subst, arith}
+-- What is only read stays, and where a count rose, over one call after another.
+use Rattle.std.proofs.Common.{ℕ, List, [], IsTrue, ◌≡◌, ◌≤◌, unwrap_or, inl, inr, ap, sym, ◌∙◌, subst, arith}
+use Rattle.std.proofs.lemmas.Bool.{cases_lt}
 use Rattle.pir_io.specs.Files.{FilesSeen, Keeps, content_of}
 use Rattle.pir_io.specs.Faults.{Rose}
 use Rattle.pir_io.specs.Reading.{OnlyRead}
@@ -22,4 +23,11 @@ then_only old mid new a b = record {
 
 -- a count that rose from a later value rose
 pub rose_before : (before mid now : ℕ) → before ≤ mid → Rose mid now → Rose before now
-rose_before before mid now le rose = omega arith
+rose_before before mid now le (inl higher) = inl (omega arith)
+rose_before before mid now le (inr last) = inr last
+
+-- a count that rose, and never fell afterwards, rose
+pub rose_after : (before mid now : ℕ) → before ≤ mid → Rose before mid → mid ≤ now → Rose before now
+rose_after before mid now first (inl higher) le = inl (omega arith)
+rose_after before mid now first (inr last) le =
+    elim (cases_lt mid now) [ inl higher ↦ inl (omega arith) | inr same ↦ inr (omega arith) ]

@@ -41,11 +41,13 @@ pub record IsPiece (bytes : List ℕ) (place : ℕ) (into : List ℕ) (n : ℕ) 
   pub within : 0 < n → place + n ≤ length bytes
   pub some : 0 < length into → place < length bytes → 0 < n
 
--- what `read_at` does: it changes nothing but its buffer
-pub record ReadsAt (old new : FilesSeen) (name : List ℕ) (place : ℕ) (into : List ℕ) (result : Result ℕ IoFault) : Type 0 where
+-- what `read_at` does: it changes nothing but its buffer, which was `before` and is `into`, and not that where memory
+-- was wanting
+pub record ReadsAt (old new : FilesSeen) (name : List ℕ) (place : ℕ) (before into : List ℕ) (result : Result ℕ IoFault) : Type 0 where
   pub tells : new.tells ≡ old.tells
   pub cause : HasCause old.faults new.faults result
   pub count : IfOk result (λ n. n ≤ length into)
+  pub buffer : result ≡ Err NoMemory → into ≡ before
   pub piece : IsTrue old.tells → IfOk result (λ n. IsPiece (content_of old name) place into n)
   pub keeps : IsTrue old.tells → Keeps old new
   pub last : IsTrue old.tells → new.last_failed ≡ last_after result (record { name = name; wrote = false }) old.last_failed

@@ -5,7 +5,7 @@ use Rattle.pir_io.specs.declared.out_sink.OutSink.{OutSink}
 use Rattle.pir_io.specs.Files.{FilesSeen}
 use Rattle.pir_io.specs.Sink.{SinkSeen}
 
-abbrev pub host_files_seen : {R : Type 0} → HostFiles R → FilesSeen
+abbrev pub host_files_seen : {R File Dir : Type 0} → HostFiles R File Dir → FilesSeen
 host_files_seen files = record { tells = false; content = λ _. None; faults = files.faults; last_failed = None }
 
 abbrev pub out_sink_seen : {R : Type 0} → OutSink R → SinkSeen

@@ -26,10 +26,22 @@ pub record NetLog : Type 0 where
   pub start : Option Start
   pub faults_at_start : ℕ
 
--- What a link keeps besides its bytes: nothing, or the log of a net.
+-- what a link that wraps another keeps: the bytes and the room that it was made with; and, for contracts alone, what
+-- the wrapped link told when it was handed in
+pub record Wrapping : Type 0 where
+  pub bytes : List ℕ
+  pub room : ℕ
+  pub took : List ℕ
+  pub wrote : List ℕ
+  pub ended : Bool
+  pub closed : Bool
+
+-- What a link keeps besides its bytes: nothing; the log of a net; or the wrapped link's own log, and what the wrapper
+-- keeps.
 pub data Log : Type 0 where
   no_log : Log
   net_log : NetLog → Log
+  wrapped_log : Log → Wrapping → Log
 
 -- What is seen of a link: whether it tells its bytes, whether it is open, the bytes read and written in this
 -- session, whether its input has ended and its writing side is closed, the faults counted, and its log.
@@ -43,13 +55,14 @@ pub record LinkSeen : Type 0 where
   pub faults : ℕ
   pub log : Log
 
--- what `read` does: the n bytes at the front of its buffer are those that came next; 0 into a buffer with
--- room is the end of input
-pub record ReadsLink (old new : LinkSeen) (into : List ℕ) (result : Result ℕ IoFault) : Type 0 where
+-- what `read` does: the n bytes at the front of its buffer, which was `before` and is `into`, are those that came next;
+-- 0 into a buffer with room is the end of input
+pub record ReadsLink (old new : LinkSeen) (before into : List ℕ) (result : Result ℕ IoFault) : Type 0 where
   pub tells : new.tells ≡ old.tells
   pub is_open : IsTrue new.is_open
   pub cause : HasCause old.faults new.faults result
   pub count : IfOk result (λ n. n ≤ length into)
+  pub buffer : result ≡ Err NoMemory → into ≡ before
   pub took : IsTrue old.tells → IfOk result (λ n. new.took ≡ old.took ++ take n into)
   pub ended : IsTrue old.tells → IfOk result (λ n. new.ended ≡ (old.ended || (n == 0 && nat_lt 0 (length into))))
   pub err : IsTrue old.tells → OnErr result ((new.took ≡ old.took) × (new.ended ≡ old.ended))

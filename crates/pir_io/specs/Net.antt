@@ -3,11 +3,17 @@ use Rattle.std.specs.Prelude.{ℕ, Bool, true, false, IsTrue, List, [], ◌∷�
 use Rattle.pir_io.specs.declared.fault.IoFault.{IoFault}
 use Rattle.pir_io.specs.declared.fault.IoFault.TheVariants.{Failed, NoMemory}
 use Rattle.pir_io.specs.Faults.{HasCause}
-use Rattle.pir_io.specs.Link.{LinkSeen, NetLog, Session, Start, connecting, no_log, net_log}
+use Rattle.pir_io.specs.Link.{LinkSeen, NetLog, Session, Start, connecting, Log, no_log, net_log, wrapped_log}
+
+-- the log of a net in what a link keeps; of a link that wraps another, the other's
+abbrev pub net_log_in : Log → NetLog
+net_log_in no_log = record { past = []; addr = None; start = None; faults_at_start = 0 }
+net_log_in (net_log log) = log
+net_log_in (wrapped_log inner wrapping) = net_log_in inner
 
 -- the log of a net
 abbrev pub log_of : LinkSeen → NetLog
-log_of net = elim net.log [ no_log ↦ record { past = []; addr = None; start = None; faults_at_start = 0 } | net_log log ↦ log ]
+log_of net = net_log_in net.log
 
 abbrev pub start_of : Option Start → Start
 start_of (Some start) = start
@@ -23,7 +29,7 @@ log_after net faults start addr (Ok _) = record { past = (log_of net).past ++ at
 log_after net faults start addr (Err Failed) = record { past = (log_of net).past ++ at_hand net; addr = addr; start = None; faults_at_start = faults }
 log_after net faults start addr (Err NoMemory) = log_of net
 
--- no byte was read or written in the session at hand, and neither side has ended
+-- no byte was read or written, and neither side has ended
 pub record IsFresh (net : LinkSeen) : Type 0 where
   pub took : net.took ≡ []
   pub wrote : net.wrote ≡ []
@@ -50,23 +56,27 @@ open_after net (Err Failed) = false
 open_after net (Err NoMemory) = net.is_open
 
 -- What `connect` and `accept` do: the session at hand, where there is one, goes to the past ones; a fresh one
--- is at hand where the call succeeds, and none where it fails. `addr` is what the log has as its address then.
+-- is at hand where the call succeeds, and none where it fails. `addr` is what the log has as its address then. Where
+-- memory was wanting, all that is seen is as it was.
 pub record Begins (old new : LinkSeen) (start : Start) (addr : Option (List ℕ)) (result : Result (Unit {0}) IoFault) : Type 0 where
   pub tells : new.tells ≡ old.tells
   pub is_open : new.is_open ≡ open_after old result
   pub cause : HasCause old.faults new.faults result
   pub session : IsTrue old.tells → SessionAfter old new result
   pub log : IsTrue old.tells → log_of new ≡ log_after old new.faults start addr result
+  pub no_memory : result ≡ Err NoMemory → new ≡ old
 
 abbrev pub listened : LinkSeen → Option (List ℕ) → Result (Unit {0}) IoFault → NetLog
 listened net addr (Ok _) = record (log_of net) { addr = addr }
 listened net addr (Err Failed) = record (log_of net) { addr = addr }
 listened net addr (Err NoMemory) = log_of net
 
--- what `listen` does: its argument is the address, and nothing else changes
+-- what `listen` does: its argument is the address, and nothing else changes; where memory was wanting, all that is
+-- seen is as it was
 pub record Listens (old new : LinkSeen) (addr : List ℕ) (result : Result (Unit {0}) IoFault) : Type 0 where
   pub tells : new.tells ≡ old.tells
   pub is_open : new.is_open ≡ old.is_open
   pub cause : HasCause old.faults new.faults result
   pub session : IsTrue old.tells → SameSession old new
   pub log : IsTrue old.tells → log_of new ≡ listened old (Some addr) result
+  pub no_memory : result ≡ Err NoMemory → new ≡ old

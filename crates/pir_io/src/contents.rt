@@ -14,6 +14,7 @@ pub(crate) struct Contents {
 }
 
 impl Contents {
+    /// No name is there.
     pub(crate) fn new(alloc: Global) -> Self
         ensures { (name : List ℕ) → content_at result name ≡ None }
     {
@@ -23,6 +24,7 @@ impl Contents {
         }
     }
 
+    /// The bytes of a name. None where it isn't there.
     pub(crate) fn bytes(&self, name: &str) -> Option<&[u8]>
         ensures { option_copied result ≡ content_at self.now name.now }
     {

@@ -1,4 +1,5 @@
-ghost use Rattle.std.specs.Prelude.{IfOk, ◌≡◌, Ok};
+ghost use Rattle.std.specs.Prelude.{IfOk, OnOk, ◌≡◌, ◌≢◌, Ok, Err};
+ghost use Rattle.pir_io.specs.declared.fault.IoFault.TheVariants.{NoMemory};
 ghost use Rattle.pir_io.specs.Faults.{HasCause};
 
 use crate::IoFault;
@@ -8,6 +9,8 @@ use std::io;
 pub(crate) fn count_fault<T>(faults: &mut u64, outcome: io::Result<T>) -> Result<T, IoFault>
     ensures cause { HasCause faults.old faults.new result }
     ensures value { IfOk result (λ value. outcome ≡ Ok value) }
+    ensures same { OnOk result (faults.new ≡ faults.old) }
+    ensures failed { result ≢ Err NoMemory }
 {
     match outcome {
         Ok(value) => Ok(value),

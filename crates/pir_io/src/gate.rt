@@ -1,5 +1,6 @@
 /// Called by each worker at the start of its piece. No contract rests on what it does.
 pub trait Gate: Sync {
+    /// Returns when the worker may go on with this piece.
     fn pass(&self, piece: u32);
 }
 

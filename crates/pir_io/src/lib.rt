@@ -13,11 +13,11 @@ mod mem_files;
 mod mem_sink;
 mod out_sink;
 mod plan;
-mod reading;
 mod sink;
 mod sound_files;
 mod sound_net;
 mod sound_sink;
+mod whole_files;
 
 pub use fault::IoFault;
 pub use files::Files;
@@ -27,11 +27,11 @@ pub use link::{Link, Net};
 pub use mem_files::MemFiles;
 pub use mem_sink::MemSink;
 pub use out_sink::OutSink;
-pub use reading::{PIECE, read_front, write_file};
 pub use sink::Sink;
 pub use sound_files::SoundFiles;
 pub use sound_net::SoundNet;
 pub use sound_sink::SoundSink;
+pub use whole_files::{PIECE, read_front, write_file};
 
 #[cfg(test)]
 mod tests;

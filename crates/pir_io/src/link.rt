@@ -1,6 +1,6 @@
-ghost use Rattle.std.specs.Prelude.{IsTrue, Some};
+ghost use Rattle.std.specs.Prelude.{IsTrue, Some, false, ◌≡◌};
 ghost use Rattle.pir_io.specs.Link.{LinkSeen, ReadsLink, WritesLink, EndsLink, connecting, accepting};
-ghost use Rattle.pir_io.specs.Net.{Begins, Listens, log_of};
+ghost use Rattle.pir_io.specs.Net.{Begins, Listens, IsFresh, log_of};
 
 use crate::IoFault;
 
@@ -10,10 +10,10 @@ pub trait Link {
     ghost seen: { Self → LinkSeen };
 
     /// Puts at most `into.len()` bytes from the peer into the front of `into`, and answers how many. 0 into a
-    /// slice that isn't empty is the end of input.
+    /// slice that isn't empty is the end of input. Where memory was wanting, `into` is as it was.
     fn read(&mut self, into: &mut [u8]) -> Result<usize, IoFault>
         requires { IsTrue (seen self.old).is_open }
-        ensures { ReadsLink (seen self.old) (seen self.new) into.new result };
+        ensures { ReadsLink (seen self.old) (seen self.new) into.old into.new result };
 
     /// Writes all the bytes.
     fn write(&mut self, bytes: &[u8]) -> Result<(), IoFault>
@@ -39,4 +39,7 @@ pub trait Net: Link {
     /// Starts a session with the next peer that comes.
     fn accept(&mut self) -> Result<(), IoFault>
         ensures { Begins (Self.seen self.old) (Self.seen self.new) accepting (log_of (Self.seen self.old)).addr result };
+
+    /// While no session is at hand, no byte was read or written, and neither side has ended.
+    ghost idle: { (x : Self) → IsTrue (Self.seen x).tells → (Self.seen x).is_open ≡ false → IsFresh (Self.seen x) };
 }

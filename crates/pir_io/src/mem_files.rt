@@ -63,7 +63,7 @@ impl Files for MemFiles {
     ghost seen = { mem_files_seen };
 
     fn read_at(&mut self, name: &str, place: u64, into: &mut [u8]) -> Result<usize, IoFault>
-        ensures reads { ReadsAt (mem_files_seen self.old) (mem_files_seen self.new) name.now place into.new result }
+        ensures reads { ReadsAt (mem_files_seen self.old) (mem_files_seen self.new) name.now place into.old into.new result }
         ensures exact { let missing = is_none ((mem_files_seen self.old).content name.now) in
             FailsExactly (mem_files_plan self.old) (mem_files_plan self.new) (is_listed (mem_files_plan self.old) || missing) result }
     {

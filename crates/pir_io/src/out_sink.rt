@@ -6,6 +6,8 @@ use crate::{IoFault, Sink};
 use std::alloc::Global;
 
 /// Standard output. It tells no bytes.
+///
+/// It is made of the runtime and the allocator, as `HostFiles` is, and keeps both; a `put` takes no memory.
 #[derive(Drop)]
 pub struct OutSink<R> {
     rt: R,
@@ -14,6 +16,7 @@ pub struct OutSink<R> {
 }
 
 impl<R: Print> OutSink<R> {
+    /// No call has failed yet.
     pub fn new(rt: R, alloc: Global) -> Self
         ensures { (out_sink_seen result).faults ≡ 0 }
     {

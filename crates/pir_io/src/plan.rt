@@ -11,6 +11,7 @@ pub(crate) struct Plan {
 }
 
 impl Plan {
+    /// No call was made yet.
     pub(crate) fn new(fail: Vec<u64>) -> Self
         ensures listed { result.fail.items ≡ fail.items }
         ensures calls { result.calls ≡ 0 }

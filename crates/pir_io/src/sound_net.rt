@@ -24,7 +24,8 @@ pub(crate) struct PastSession {
     pub(crate) opening: Opening,
 }
 
-/// A net in memory that never fails. The peer of session k sends input k, and nothing past the last one.
+/// A net in memory that never fails. The peer of session k sends input k, and nothing past the last one. While no session
+/// is at hand, it tells no bytes.
 #[derive(Drop)]
 pub struct SoundNet {
     alloc: Global,
@@ -149,7 +150,7 @@ impl Link for SoundNet {
 
     fn read(&mut self, into: &mut [u8]) -> Result<usize, IoFault>
         requires { IsTrue (sound_net_seen self.old).is_open }
-        ensures reads { ReadsLink (sound_net_seen self.old) (sound_net_seen self.new) into.new result }
+        ensures reads { ReadsLink (sound_net_seen self.old) (sound_net_seen self.new) into.old into.new result }
         ensures exact { ReadsInput (sound_net_plan self.old) (sound_net_seen self.old) into.new result }
         ensures plan { sound_net_plan self.new ≡ sound_net_plan self.old }
     {
@@ -180,6 +181,10 @@ impl Link for SoundNet {
 }
 
 impl Net for SoundNet {
+    ghost use Rattle.pir_io.specs.SoundNet.{idle_is_fresh};
+
+    ghost idle = { λ x _ none. idle_is_fresh x none };
+
     fn listen(&mut self, addr: &str) -> Result<(), IoFault>
         ensures listens { Listens (sound_net_seen self.old) (sound_net_seen self.new) addr.now result }
         ensures plan { sound_net_plan self.new ≡ sound_net_plan self.old }

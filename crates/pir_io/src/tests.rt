@@ -2,7 +2,8 @@ use super::*;
 use no_memory::NoMemory;
 use std::alloc::Global;
 use std::fmt::Display;
-use std::io::ErrorKind;
+use std::io::{ErrorKind, Write};
+use std::os::fd::AsRawFd;
 use std::process::Abort;
 use std::test::Fail;
 use std::{fs, io};
@@ -16,7 +17,7 @@ fn expect_bytes(rt: &impl Abort, bytes: Option<&[u8]>, want: &[u8]) {
     assert_eq!(rt; bytes, want);
 }
 
-// Reads into four bytes.
+/// Reads into four bytes.
 fn expect_read<F: Files>(rt: &impl Abort, files: &mut F, name: &str, place: u64, want: &[u8]) {
     let mut into = [0u8; 4];
     let count = files.read_at(name, place, &mut into).expect(rt, "a read");
@@ -97,7 +98,7 @@ fn sinks_in_memory_keep_what_is_put(rt: HostRuntime) -> Result<(), Fail> {
     Ok(())
 }
 
-// Session 0 sends "hello", session 1 "yz", each later one nothing. A read gives three bytes at most.
+/// Session 0 sends "hello", session 1 "yz", each later one nothing. A read gives three bytes at most.
 fn net_of_two(alloc: Global) -> Result<SoundNet, NoMemory> {
     let first = b"hello".to_vec(alloc)?;
     let second = b"yz".to_vec(alloc)?;
@@ -107,7 +108,7 @@ fn net_of_two(alloc: Global) -> Result<SoundNet, NoMemory> {
     Ok(SoundNet::new(alloc, inputs, 3))
 }
 
-// Begins a session, and reads twice into four bytes.
+/// Begins a session, and reads twice into four bytes.
 fn expect_session(rt: &impl Abort, net: &mut SoundNet, first: &[u8], second: &[u8]) {
     net.connect("there").expect(rt, "a session");
     let mut into = [0u8; 4];
@@ -159,6 +160,54 @@ fn the_systems_files_are_written_and_read_back(rt: HostRuntime) -> Result<(), Fa
     Ok(())
 }
 
+/// Reads eight pieces of three bytes at most, each where the one before it ended.
+fn read_in_threes<F: Files>(alloc: Global, files: &mut F, name: &str) -> Result<Vec<u8>, IoFault> {
+    let mut bytes = Vec::new(alloc);
+    let mut into = [0u8; 3];
+    for _ in 0..8 {
+        let count = files.read_at(name, bytes.len() as u64, &mut into)?;
+        bytes.extend_from_slice(&into[..count])?;
+    }
+    Ok(bytes)
+}
+
+#[test]
+fn the_systems_files_are_read_on_and_sought(rt: HostRuntime) -> Result<(), Fail> {
+    let alloc = rt.alloc();
+    let (first, second) = ("pir_io_first_test.tmp", "pir_io_second_test.tmp");
+    let mut files = HostFiles::new(&rt, alloc);
+    write_file(&mut files, first, b"hello you")?;
+    write_file(&mut files, second, b"other")?;
+    let bytes = read_in_threes(alloc, &mut files, first)?;
+    expect_bytes(&rt, Some(&bytes), b"hello you");
+    expect_read(&rt, &mut files, first, 1, b"ello");
+    expect_read(&rt, &mut files, second, 0, b"othe");
+    expect_read(&rt, &mut files, first, 4, b"o yo");
+    write_file(&mut files, first, b"new bytes")?;
+    expect_read(&rt, &mut files, first, 4, b"byte");
+    expect_failed(&rt, files.read_at(first, u64::MAX, &mut [0u8; 4]));
+    expect_read(&rt, &mut files, first, 8, b"s");
+    assert_eq!(rt; files.faults(), 1);
+    fs::remove_file(&rt, first)?;
+    fs::remove_file(&rt, second)?;
+    Ok(())
+}
+
+#[test]
+fn a_pipe_is_read_from_its_start_to_its_end(rt: HostRuntime) -> Result<(), Fail> {
+    let alloc = rt.alloc();
+    let (reader, mut writer) = io::pipe(&rt)?;
+    writer.write_all(b"hello you")?;
+    drop(writer);
+    let name = format!(in alloc; "/dev/fd/{}", reader.as_raw_fd())?;
+    let mut files = HostFiles::new(&rt, alloc);
+    let bytes = read_in_threes(alloc, &mut files, &name)?;
+    expect_bytes(&rt, Some(&bytes), b"hello you");
+    expect_failed(&rt, files.read_at(&name, 1, &mut [0u8; 4]));
+    assert_eq!(rt; files.faults(), 1);
+    Ok(())
+}
+
 #[test]
 fn the_systems_refusals_are_counted(rt: HostRuntime) -> Result<(), Fail> {
     let mut files = HostFiles::new(&rt, rt.alloc());
@@ -170,7 +219,7 @@ fn the_systems_refusals_are_counted(rt: HostRuntime) -> Result<(), Fail> {
     Ok(())
 }
 
-// A standard output on a full device.
+/// A standard output on a full device.
 #[derive(Drop)]
 struct FullOutput;
 
@@ -226,7 +275,7 @@ fn files_are_read_and_written_whole(rt: HostRuntime) -> Result<(), Fail> {
     Ok(())
 }
 
-// Three bytes more than one piece.
+/// Three bytes more than one piece.
 fn long_bytes(alloc: Global) -> Result<Vec<u8>, NoMemory> {
     let mut bytes = Vec::new(alloc);
     for k in 0..PIECE + 3 {

@@ -1,6 +1,6 @@
 -- How contracts see a server, and what it keeps.
 use Rattle.std.specs.Prelude.{ℕ, List, ◌≡◌, ◌+◌, ◌*◌, ◌^◌, ◌≤◌, length, All}
-use Rattle.spiral_model.specs.declared.param_set.ParamSet.{ParamSet}
+use Rattle.spiral_sets.specs.declared.param_set.ParamSet.{ParamSet}
 use Rattle.spiral_model.specs.Sets.{IsSet, IsBuilt, rows, columns}
 use Rattle.spiral_model.specs.Databases.{RecordTable, matrices_of}
 use Rattle.regev_code.specs.Products.{HasShape}

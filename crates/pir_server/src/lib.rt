@@ -2,6 +2,7 @@
 #![tactic(auto)]
 
 mod answering;
+mod folding;
 mod server;
 #[cfg(test)]
 mod tests;

@@ -1,11 +1,12 @@
 ghost use Rattle.std.specs.Prelude.{◌≡◌, ◌≤◌, IfOk};
+ghost use Rattle.std.specs.Option.{option_copied};
 ghost use Rattle.spiral_model.specs.Sets.{IsBuilt};
-ghost use Rattle.spiral_model.specs.Queries.{IsQuery};
-ghost use Rattle.spiral_model.specs.Answering.{answer_of};
+ghost use Rattle.spiral_model.specs.Bodies.{IsQuery};
+ghost use Rattle.spiral_model.specs.Answering.{ready_of, answer_of};
 
-use crate::answering::{reply_of, scratches, set_of, zero_outputs, zero_reply};
-use first_dim::{Prepared, products};
-use fold_dims::fold;
+use crate::answering::{blank_reply, fill_reply, scratches, zero_outputs};
+use crate::folding::work_out;
+use first_dim::Prepared;
 use modulus_switch::Reply;
 use no_memory::NoMemory;
 use pir_io::Gate;
@@ -46,7 +47,7 @@ impl Model for Server {
 impl Server {
     /// A server of the database with so many workers, from 1 to 64.
     pub fn new<R: Threads + Sync>(
-        _rt: &R,
+        rt: &R,
         alloc: Global,
         db: Database,
         workers: u32,
@@ -58,7 +59,7 @@ impl Server {
     {
         let set = db.set;
         let ring = Ring::new(alloc, set.degree as usize)?;
-        let prepared = Prepared::new(alloc, &ring, &db)?;
+        let prepared = Prepared::new(rt, alloc, &ring, &db)?;
         Ok(Server {
             alloc,
             prepared,
@@ -87,32 +88,24 @@ impl Server {
     ) -> Result<Reply, NoMemory>
         requires set { query.now.set ≡ self.old.table.set }
         requires query { IsQuery query.now }
-        ensures reply { IfOk result (λ reply. reply ≡ answer_of self.old.table query.now) }
+        ensures reply { IfOk result (λ reply. reply ≡ answer_of self.old.table (option_copied keys.entry) (ready_of self.old.table.set (option_copied keys.entry) query.now.ciphers)) }
         ensures server { self.new ≡ self.old }
     {
-        let mut reply = zero_reply(self.alloc, &self.db)?;
-        let set = set_of(&self.db);
+        let mut reply = blank_reply(self.alloc, &self.db)?;
+        let set = self.db.set();
         let room = &mut self.scratch[0];
         let ready = ready(self.alloc, &self.ring, &set, keys, query, room)?;
-        products(
-            rt,
-            &self.ring,
-            &self.prepared,
-            &ready.firsts,
-            &mut self.outputs,
-            &mut self.scratch,
-            gate,
-        );
-        fold(
+        work_out(
             rt,
             &self.ring,
             &set,
+            &self.prepared,
+            &ready,
             &mut self.outputs,
-            &ready.gsws,
             &mut self.scratch,
             gate,
         );
-        reply_of(&set, &self.outputs[..set.n as usize], &mut reply);
+        fill_reply(&set, &self.outputs[..set.n as usize], &mut reply);
         Ok(reply)
     }
 }

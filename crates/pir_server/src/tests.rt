@@ -1,16 +1,17 @@
 //! Answers of edge-256 to queries whose secrets, uniform parts and errors are 0, so that each row of a ciphertext is its
 //! message. The expected numbers are worked out by hand.
 ghost use Rattle.std.specs.Prelude.{◌≡◌, ◌<◌, ◌≤◌, true, false, length, All, IfOk, IsTrue};
-ghost use Rattle.spiral_model.specs.Sets.{IsSet, q};
-ghost use Rattle.spiral_model.specs.Queries.{IsCipher, IsQuery};
+ghost use Rattle.spiral_model.specs.Sets.{IsSet};
+ghost use Rattle.spiral_model.specs.Ciphertexts.{IsCipher};
+ghost use Rattle.spiral_model.specs.Bodies.{IsQuery};
 
 use super::*;
 use gsw_code::encrypt_bit;
 use modulus_switch::Reply;
 use pir_io::OpenGate;
 use record_store::{Database, prepare};
-use regev_code::{Cipher, Draw, QueryBody, draw_secret};
-use ring_poly::{Poly, Q, Ring};
+use regev_code::{Cipher, Draw, QueryBody, draw_secret, is_cipher};
+use ring_poly::{Poly, Ring, are_residues};
 use spiral_model::{ParamSet, set_at};
 use std::alloc::Global;
 use std::process::Abort;
@@ -63,41 +64,16 @@ fn words_of_zero(alloc: Global) -> Result<Vec<u64>, Fail> {
     Ok(words)
 }
 
-#[tactic(auto, unfolding(spiral_model::specs::Sets::q))]
-fn are_residues(numbers: &[u64]) -> bool
-    ensures { IsTrue result → All (λ x. x < q) numbers.now }
-{
-    numbers.iter().all(|x| *x < Q)
-}
-
 fn are_polynomials(rows: &[Poly]) -> bool
     ensures { IsTrue result → All (λ a. length a ≡ 256) rows.now }
 {
-    rows.iter().all(|a| a.coeffs().len() == 256)
-}
-
-fn is_row(a: &Poly) -> bool
-    ensures { IsTrue result → (length a.now ≡ 256) × All (λ x. x < q) a.now }
-{
-    a.coeffs().len() == 256
-}
-
-fn are_rows(rows: &[Poly]) -> bool
-    ensures { IsTrue result → All (λ a. (length a ≡ 256) × All (λ x. x < q) a) rows.now }
-{
-    rows.iter().all(|a| is_row(a))
-}
-
-fn is_column(c: &Cipher) -> bool
-    ensures { IsTrue result → IsCipher 256 2 c.now }
-{
-    c.rows() == 3 && are_rows(&c.polys)
+    rows.iter().all(|a| a.degree() == 256)
 }
 
 fn are_columns(columns: &[Cipher]) -> bool
     ensures { IsTrue result → All (IsCipher 256 2) columns.now }
 {
-    columns.iter().all(|c| is_column(c))
+    columns.iter().all(|c| is_cipher(c, 256, 2))
 }
 
 /// z at place 0, and 0 at the others.

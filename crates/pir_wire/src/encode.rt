@@ -1,24 +1,16 @@
-ghost use Rattle.std.specs.Prelude.{◌≡◌, ◌++◌, map, All, IfOk};
-ghost use Rattle.spiral_model.specs.Sets.{IsBuilt};
-ghost use Rattle.spiral_model.specs.Switched.{IsTernary};
-ghost use Rattle.spiral_model.specs.Frames.{CanBeSent, Spell, query_message, reply_message, state_message, secret_byte as secret_byte_of};
+ghost use Rattle.std.specs.Prelude.{◌≡◌, ◌++◌, map, replicate, All, IfOk};
+ghost use Rattle.spiral_sets.specs.Sets.{IsBuilt};
+ghost use Rattle.spiral_model.specs.Replies.{IsTernary};
+ghost use Rattle.spiral_frames.specs.Frames.{CanBeSent, Spell, query_message, reply_message, state_message, secret_byte as secret_byte_of};
 
 use crate::header::begin_frame;
-use crate::reply::push_polynomials;
+use crate::reply::{push_body, push_mask};
 use crate::residues::push_ciphers;
+use frame_headers::FrameKind;
 use modulus_switch::{ClientState, Reply};
 use no_memory::NoMemory;
 use regev_code::QueryBody;
 use std::alloc::Global;
-
-/// The code of a Query frame.
-const QUERY: u8 = 2;
-
-/// The code of a Reply frame.
-const REPLY: u8 = 3;
-
-/// The code of a State frame.
-const STATE: u8 = 5;
 
 /// The byte of a number of a secret: the number plus 1.
 fn secret_byte(number: i8) -> u8
@@ -44,11 +36,17 @@ pub fn encode_state(alloc: Global, state: &ClientState) -> Result<Vec<u8>, NoMem
     requires { CanBeSent (state_message state.now) }
     ensures { IfOk result (λ bytes. Spell (state_message state.now) bytes.items) }
 {
-    let body_len = 8 + u64::from(state.set.n) * u64::from(state.set.degree);
-    let mut out = begin_frame(alloc, STATE, &state.set, body_len)?;
+    let mut out = begin_frame(alloc, FrameKind::State, &state.set)?;
     out.extend_from_slice(&u64::from(state.index).to_le_bytes())?;
     push_secret(&mut out, &state.secret)?;
     Ok(out)
+}
+
+/// So many zeros.
+fn zeros(alloc: Global, count: usize) -> Result<Vec<u64>, NoMemory>
+    ensures { IfOk result (λ v. v.items ≡ replicate count 0) }
+{
+    Ok(vec![in alloc; 0u64; count]?)
 }
 
 /// The Query frame of a query.
@@ -56,8 +54,9 @@ pub fn encode_query(alloc: Global, query: &QueryBody) -> Result<Vec<u8>, NoMemor
     requires { CanBeSent (query_message query.now) }
     ensures { IfOk result (λ bytes. Spell (query_message query.now) bytes.items) }
 {
-    let mut out = begin_frame(alloc, QUERY, &query.set, query.set.query_len())?;
-    push_ciphers(&mut out, &query.ciphers)?;
+    let mut numbers = zeros(alloc, query.set.degree as usize)?;
+    let mut out = begin_frame(alloc, FrameKind::Query, &query.set)?;
+    push_ciphers(&mut out, &query.ciphers, &mut numbers)?;
     Ok(out)
 }
 
@@ -67,9 +66,10 @@ pub fn encode_reply(alloc: Global, reply: &Reply) -> Result<Vec<u8>, NoMemory>
     ensures { IfOk result (λ bytes. Spell (reply_message reply.now) bytes.items) }
 {
     let set = reply.set();
-    let mut out = begin_frame(alloc, REPLY, &set, set.reply_len())?;
+    let mut out = begin_frame(alloc, FrameKind::Reply, &set)?;
     out.extend_from_slice(&u64::from(reply.count()).to_le_bytes())?;
     out.extend_from_slice(&u64::from(reply.length()).to_le_bytes())?;
-    push_polynomials(&mut out, reply)?;
+    push_body(&mut out, reply)?;
+    push_mask(&mut out, reply)?;
     Ok(out)
 }

@@ -1,6 +1,6 @@
-ghost use Rattle.std.specs.Prelude.{◌≡◌, ◌++◌, IfOk};
-ghost use Rattle.std.specs.List.{flat_map};
-ghost use Rattle.spiral_model.specs.Frames.{number, cipher_bytes};
+ghost use Rattle.std.specs.Prelude.{◌≡◌, ◌++◌, length, All, IfOk};
+ghost use Rattle.frame_headers.specs.Headers.{number};
+ghost use Rattle.spiral_frames.specs.Frames.{poly_bytes, rows_bytes, cipher_bytes};
 
 use no_memory::NoMemory;
 use regev_code::Cipher;
@@ -15,32 +15,47 @@ fn push_residue(out: &mut Vec<u8>, residue: u64) -> Result<(), NoMemory>
     Ok(())
 }
 
-/// Appends the residues of a polynomial, from place 0.
-fn push_poly(out: &mut Vec<u8>, poly: &Poly) -> Result<(), NoMemory>
-    ensures { IfOk result (λ _. out.new.items ≡ out.old.items ++ flat_map (number 7) poly.now) }
+/// Appends residues, one after the other.
+fn push_residues(out: &mut Vec<u8>, residues: &[u64]) -> Result<(), NoMemory>
+    ensures { IfOk result (λ _. out.new.items ≡ out.old.items ++ poly_bytes residues.now) }
 {
-    for residue in poly.coeffs() {
+    for residue in residues {
         push_residue(out, *residue)?;
     }
     Ok(())
 }
 
-/// Appends the rows of a ciphertext, from row 0.
-fn push_cipher(out: &mut Vec<u8>, cipher: &Cipher) -> Result<(), NoMemory>
-    ensures { IfOk result (λ _. out.new.items ≡ out.old.items ++ flat_map (λ poly. flat_map (number 7) poly) cipher.now) }
+/// Appends the residues of a polynomial, from place 0. `numbers` is a buffer for them.
+fn push_poly(out: &mut Vec<u8>, poly: &Poly, numbers: &mut [u64]) -> Result<(), NoMemory>
+    requires { length numbers.old ≡ length poly.now }
+    ensures { IfOk result (λ _. out.new.items ≡ out.old.items ++ poly_bytes poly.now) }
+{
+    poly.coeffs_into(numbers);
+    push_residues(out, numbers)
+}
+
+/// Appends the rows of a ciphertext, from row 0. `numbers` is a buffer for those of one row.
+fn push_cipher(out: &mut Vec<u8>, cipher: &Cipher, numbers: &mut [u64]) -> Result<(), NoMemory>
+    requires { All (λ poly. length poly ≡ length numbers.old) cipher.now }
+    ensures { IfOk result (λ _. out.new.items ≡ out.old.items ++ rows_bytes cipher.now) }
 {
     for r in 0..cipher.rows() {
-        push_poly(out, cipher.row(r))?;
+        push_poly(out, cipher.row(r), numbers)?;
     }
     Ok(())
 }
 
-/// Appends ciphertexts, one after the other.
-pub(crate) fn push_ciphers(out: &mut Vec<u8>, ciphers: &[Cipher]) -> Result<(), NoMemory>
+/// Appends ciphertexts, one after the other. `numbers` is a buffer for the numbers of one row.
+pub(crate) fn push_ciphers(
+    out: &mut Vec<u8>,
+    ciphers: &[Cipher],
+    numbers: &mut [u64],
+) -> Result<(), NoMemory>
+    requires { All (λ cipher. All (λ poly. length poly ≡ length numbers.old) cipher) ciphers.now }
     ensures { IfOk result (λ _. out.new.items ≡ out.old.items ++ cipher_bytes ciphers.now) }
 {
     for cipher in ciphers {
-        push_cipher(out, cipher)?;
+        push_cipher(out, cipher, numbers)?;
     }
     Ok(())
 }

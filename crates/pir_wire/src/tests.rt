@@ -1,12 +1,12 @@
-ghost use Rattle.std.specs.Prelude.{◌≡◌, ◌+◌, ◌<◌, ◌^◌, length, All, IsTrue, true, false};
-ghost use Rattle.spiral_model.specs.Sets.{IsSet, IsBuilt, q};
-ghost use Rattle.spiral_model.specs.Queries.{IsCipher};
+ghost use Rattle.std.specs.Prelude.{◌≡◌, ◌<◌, ◌^◌, length, All, IsTrue, IfOk, true, false};
+ghost use Rattle.spiral_sets.specs.Sets.{IsSet, IsBuilt, q};
+ghost use Rattle.spiral_model.specs.Ciphertexts.{IsCipher};
 
 use super::*;
 use modulus_switch::{ClientState, Reply};
 use regev_code::{Cipher, QueryBody};
-use ring_poly::{Poly, Q};
-use spiral_model::{ParamSet, set_at};
+use ring_poly::{Poly, are_residues};
+use spiral_sets::{ParamSet, set_at};
 use std::alloc::Global;
 use std::process::Abort;
 use std::test::Fail;
@@ -102,16 +102,10 @@ fn bytes_at(i: usize) -> [u8; 7] {
     [0; 7]
 }
 
-#[tactic(auto, unfolding(spiral_model::specs::Sets::q))]
-fn are_residues(numbers: &[u64]) -> bool
-    ensures { IsTrue result → All (λ x. x < q) numbers.now }
-{
-    numbers.iter().all(|x| *x < Q)
-}
-
 /// Polynomial j of the query, of 256 residues.
 fn poly(rt: &impl Abort, alloc: Global, j: usize) -> Result<Poly, Fail>
     requires { j < 2 ^ 32 }
+    ensures { IfOk result (λ a. (length a ≡ 256) × All (λ x. x < q) a) }
 {
     let mut coeffs = Vec::new(alloc);
     for place in 0..256usize {
@@ -122,49 +116,16 @@ fn poly(rt: &impl Abort, alloc: Global, j: usize) -> Result<Poly, Fail>
     Ok(Poly::from_coeffs(alloc, &coeffs)?)
 }
 
-fn is_of_degree(a: &Poly, n: usize) -> bool
-    ensures { IsTrue result → length a.now ≡ n }
-{
-    a.coeffs().len() == n
-}
-
-fn are_of_degree(rows: &[Poly], n: usize) -> bool
-    ensures { IsTrue result → All (λ a. length a ≡ n) rows.now }
-{
-    rows.iter().all(|a| is_of_degree(a, n))
-}
-
 /// Ciphertext c of the query, of rows 0 to 2.
 fn cipher(rt: &impl Abort, alloc: Global, c: usize) -> Result<Cipher, Fail>
     requires { c < 2 ^ 16 }
+    ensures { IfOk result (λ cipher. IsCipher 256 2 cipher) }
 {
     let mut rows = Vec::new(alloc);
     for r in 0..3usize {
         rows.push(poly(rt, alloc, 3 * c + r)?)?;
     }
-    assert!(rt; rows.len() == 3);
-    assert!(rt; are_of_degree(&rows, 256));
     Ok(Cipher::from_rows(rows))
-}
-
-fn is_row(a: &Poly, n: usize) -> bool
-    ensures { IsTrue result → (length a.now ≡ n) × All (λ x. x < q) a.now }
-{
-    a.coeffs().len() == n
-}
-
-fn is_cipher(c: &Cipher, n: usize, m: usize) -> bool
-    requires { m < 2 ^ 31 }
-    ensures { IsTrue result → IsCipher n m c.now }
-{
-    c.polys.len() == m + 1 && c.polys.iter().all(|a| is_row(a, n))
-}
-
-fn are_ciphers(ciphers: &[Cipher], n: usize, m: usize) -> bool
-    requires { m < 2 ^ 31 }
-    ensures { IsTrue result → All (IsCipher n m) ciphers.now }
-{
-    ciphers.iter().all(|c| is_cipher(c, n, m))
 }
 
 /// The frame of the query.
@@ -182,8 +143,6 @@ fn query_frame(rt: &impl Abort, alloc: Global, set: ParamSet) -> Result<Vec<u8>,
     for c in 0..28usize {
         ciphers.push(cipher(rt, alloc, c)?)?;
     }
-    assert!(rt; ciphers.len() == 28);
-    assert!(rt; are_ciphers(&ciphers, 256, 2));
     Ok(encode_query(alloc, &QueryBody { set, ciphers })?)
 }
 

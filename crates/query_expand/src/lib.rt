@@ -1,8 +1,8 @@
 //! A query as the server works with it: the ciphertexts of the first dimension and the GSW ciphertexts of its selections.
 #![tactic(auto)]
 
-mod expansion;
+mod made_ready;
 #[cfg(test)]
 mod tests;
 
-pub use expansion::ready;
+pub use made_ready::ready;

@@ -1,14 +1,15 @@
-ghost use Rattle.std.specs.Prelude.{◌≡◌, ◌<◌, true, false, length, All, IfOk, IsTrue};
-ghost use Rattle.spiral_model.specs.Sets.{IsSet, q};
-ghost use Rattle.spiral_model.specs.Queries.{IsCipher, IsQuery};
+ghost use Rattle.std.specs.Prelude.{◌≡◌, ◌<◌, true, false, length, replicate, All, IfOk, IsTrue};
+ghost use Rattle.spiral_sets.specs.Sets.{IsSet};
+ghost use Rattle.spiral_model.specs.Ciphertexts.{IsCipher};
+ghost use Rattle.spiral_model.specs.Bodies.{IsQuery};
 ghost use Rattle.regev_code.specs.Products.{HasShape};
 ghost use Rattle.gsw_code.specs.Products.{IsGsw, IsReady};
 
 use super::*;
 use gsw_code::{Gsw, Ready};
-use regev_code::{Cipher, CipherT, QueryBody, Scratch, from_form};
-use ring_poly::{Poly, Q, Ring};
-use spiral_model::{ParamSet, set_at};
+use regev_code::{Cipher, CipherT, QueryBody, Scratch, from_form, is_cipher};
+use ring_poly::{Poly, Ring, are_residues};
+use spiral_sets::{ParamSet, set_at};
 use std::alloc::Global;
 use std::process::Abort;
 use std::test::Fail;
@@ -26,41 +27,16 @@ fn numbers_of(k: u32) -> Numbers {
     (first + 1, first + 2, first + 3)
 }
 
-#[tactic(auto, unfolding(spiral_model::specs::Sets::q))]
-fn are_residues(numbers: &[u64]) -> bool
-    ensures { IsTrue result → All (λ x. x < q) numbers.now }
-{
-    numbers.iter().all(|x| *x < Q)
-}
-
-fn is_row(a: &Poly) -> bool
-    ensures { IsTrue result → (length a.now ≡ 256) × All (λ x. x < q) a.now }
-{
-    a.coeffs().len() == 256
-}
-
-fn are_rows(rows: &[Poly]) -> bool
-    ensures { IsTrue result → All (λ a. (length a ≡ 256) × All (λ x. x < q) a) rows.now }
-{
-    rows.iter().all(|a| is_row(a))
-}
-
-fn is_cipher(c: &Cipher) -> bool
-    ensures { IsTrue result → IsCipher 256 2 c.now }
-{
-    c.rows() == 3 && are_rows(&c.polys)
-}
-
 fn are_ciphers(ciphers: &[Cipher]) -> bool
     ensures { IsTrue result → All (IsCipher 256 2) ciphers.now }
 {
-    ciphers.iter().all(|c| is_cipher(c))
+    ciphers.iter().all(|c| is_cipher(c, 256, 2))
 }
 
 fn are_polynomials(rows: &[Poly]) -> bool
     ensures { IsTrue result → All (λ a. length a ≡ 256) rows.now }
 {
-    rows.iter().all(|a| a.coeffs().len() == 256)
+    rows.iter().all(|a| a.degree() == 256)
 }
 
 fn has_shape(c: &Cipher) -> bool
@@ -71,10 +47,8 @@ fn has_shape(c: &Cipher) -> bool
 
 /// z as a polynomial.
 fn constant(rt: &impl Abort, alloc: Global, z: u64) -> Result<Poly, Fail> {
-    let mut numbers = vec![in alloc; 0u64; 256]?;
-    numbers[0] = z;
-    assert!(rt; are_residues(&numbers));
-    Ok(Poly::from_coeffs(alloc, &numbers)?)
+    assert!(rt; are_residues(&[z]));
+    Ok(Poly::constant(alloc, 256, z)?)
 }
 
 /// The ciphertext of three constants.
@@ -123,7 +97,7 @@ fn made_ready(rt: &impl Abort, alloc: Global, set: &ParamSet) -> Result<Ready, F
     requires direct { set.now.direct ≡ true }
     requires plain { set.now.pack ≡ false }
     requires width { set.now.w_gsw ≡ 7 }
-    ensures { IfOk result (λ ready. IsReady set.now ready.firsts.items ready.gsws.items) }
+    ensures { IfOk result (λ ready. IsReady set.now ready) }
 {
     let ring = Ring::new(alloc, 256)?;
     let query = query(rt, alloc, set)?;
@@ -141,23 +115,6 @@ fn sent(rt: &impl Abort, alloc: Global, form: &CipherT) -> Result<Cipher, Fail>
     Ok(out)
 }
 
-/// The ciphertext with 2^(7 k) in row r, whose product with a GSW ciphertext is column (r, k).
-fn unit(rt: &impl Abort, alloc: Global, r: u32, k: u32) -> Result<Cipher, Fail>
-    requires { k < 8 }
-    ensures { IfOk result (λ c. HasShape 256 3 c) }
-{
-    let power = 1u64 << (7 * k);
-    cipher(
-        rt,
-        alloc,
-        (
-            if r == 0 { power } else { 0 },
-            if r == 1 { power } else { 0 },
-            if r == 2 { power } else { 0 },
-        ),
-    )
-}
-
 /// Column (r, k) of a GSW ciphertext.
 fn column(
     rt: &impl Abort,
@@ -171,26 +128,38 @@ fn column(
     requires degree { set.now.degree ≡ 256 }
     requires two { set.now.n ≡ 2 }
     requires plain { set.now.pack ≡ false }
+    requires width { set.now.w_gsw ≡ 7 }
     requires gsw { IsGsw set.now gsw.now }
+    requires row { r < 3 }
     requires digit { k < 8 }
 {
-    let ring = Ring::new(alloc, 256)?;
-    let c = unit(rt, alloc, r, k)?;
-    let mut out = cipher(rt, alloc, (0, 0, 0))?;
-    let mut scratch = Scratch::new(alloc, set)?;
-    gsw.external_into(&ring, &c, &mut out, &mut scratch);
-    Ok(out)
+    Ok(sent(rt, alloc, gsw.column(set, r, k))?)
 }
 
-fn holds(rt: &impl Abort, c: &Cipher, k: u32) {
+/// n zeros.
+fn zeros(alloc: Global, n: usize) -> Result<Vec<u64>, Fail>
+    ensures { IfOk result (λ v. v.items ≡ replicate n 0) }
+{
+    Ok(vec![in alloc; 0u64; n]?)
+}
+
+/// The coefficients of a polynomial.
+fn coefficients(alloc: Global, a: &Poly) -> Result<Vec<u64>, Fail> {
+    let mut numbers = zeros(alloc, a.degree())?;
+    a.coeffs_into(&mut numbers);
+    Ok(numbers)
+}
+
+fn holds(rt: &impl Abort, alloc: Global, c: &Cipher, k: u32) -> Result<(), Fail> {
     let want = numbers_of(k);
     for (r, number) in [(0u32, want.0), (1, want.1), (2, want.2)] {
         assert!(rt; r < c.rows());
-        let coeffs = c.row(r).coeffs();
+        let coeffs = coefficients(alloc, c.row(r))?;
         assert!(rt; 1 < coeffs.len());
         assert_eq!(rt; coeffs[0], number, "ciphertext {k}, row {r}");
         assert_eq!(rt; coeffs[1], 0, "ciphertext {k}, row {r}");
     }
+    Ok(())
 }
 
 #[test]
@@ -202,12 +171,12 @@ fn each_ciphertext_at_its_place(rt: HostRuntime) -> Result<(), Fail> {
     let ready = made_ready(&rt, alloc, &set)?;
     assert!(rt; ready.firsts.len() == 4 && ready.gsws.len() == 1);
     for k in 0..4u32 {
-        holds(&rt, &sent(&rt, alloc, &ready.firsts[k as usize])?, k);
+        holds(&rt, alloc, &sent(&rt, alloc, &ready.firsts[k as usize])?, k)?;
     }
     for r in 0..3u32 {
         for k in 0..8u32 {
             let c = column(&rt, alloc, &set, &ready.gsws[0], r, k)?;
-            holds(&rt, &c, 4 + 8 * r + k);
+            holds(&rt, alloc, &c, 4 + 8 * r + k)?;
         }
     }
     Ok(())

@@ -2,14 +2,15 @@
 use Rattle.std.proofs.Common.{◌≡◌, ◌≢◌, ℕ, ◌+◌, ◌*◌, ◌<◌, ◌≤◌, ◌⊎◌, inl, inr, true, false, ◌||◌, not, List, [], ◌∷◌, length, Option, Some, refl, ap, ◌∙◌, arith, lt-ltb, le-ltb, eq-eqb, ne_eqb, Fits, w64}
 use Rattle.std.proofs.Math.Nat.{mul-le-mul}
 use Rattle.std.specs.Prelude.{nat_eq, nat_lt}
-use Rattle.spiral_model.specs.declared.param_set.ParamSet.{ParamSet}
-use Rattle.spiral_model.specs.declared.frame_error.FrameError.{FrameError}
-use Rattle.spiral_model.specs.declared.frame_error.FrameError.TheVariants.{Short, RecordLength, TooMany, Ragged}
+use Rattle.spiral_sets.specs.declared.param_set.ParamSet.{ParamSet}
+use Rattle.frame_headers.specs.declared.frame_error.FrameError.{FrameError}
+use Rattle.frame_headers.specs.declared.frame_error.FrameError.TheVariants.{Short, RecordLength, TooMany, Ragged}
 use Rattle.spiral_model.specs.Sets.{max_records, capacity}
-use Rattle.spiral_model.specs.Checks.{Check, Outcome, checked, passes, refuses, ends_before, database_checks, header_checks, after_header, is_none, set_in, header_len_in, body_len_in, body_len_place, number_at}
-use Rattle.spiral_model.proofs.HeaderReading.{checked-ends, checked-fails, checked-passes, checked-none}
-use Rattle.spiral_model.proofs.Outcomes.{and_then, checked-append, AllPass, all_pass}
-use Rattle.record_store.specs.Decoding.{refusal_by, front_outcome}
+use Rattle.spiral_frames.specs.Checks.{Check, Outcome, checked, passes, refuses, ends_before, header_checks, is_none, set_in, header_len_in, body_len_in, body_len_place, number_at}
+use Rattle.spiral_frames.specs.FrameChecks.{database_checks, after_header, front_outcome}
+use Rattle.frame_headers.proofs.HeaderReading.{checked-ends, checked-fails, checked-passes, checked-none}
+use Rattle.frame_headers.proofs.Outcomes.{and_then, checked-append, AllPass, all_pass}
+use Rattle.record_store.specs.Decoding.{refusal_by}
 
 module _ (bytes : List ℕ) (set : ParamSet) where
   abbrev start : ℕ

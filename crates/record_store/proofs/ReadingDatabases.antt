@@ -5,16 +5,18 @@ use Rattle.std.proofs.lemmas.List.{get_or-take, get_or_past, take_all}
 use Rattle.std.proofs.lemmas.List.Elements.{All-get_or}
 use Rattle.pir_io.specs.Files.{FilesSeen, content_of}
 use Rattle.pir_io.specs.Reading.{OnlyRead}
-use Rattle.spiral_model.specs.declared.frame_error.FrameError.{FrameError}
+use Rattle.frame_headers.specs.declared.frame_error.FrameError.{FrameError}
+use Rattle.frame_headers.specs.declared.kind.FrameKind.TheVariants.{Database}
 use Rattle.spiral_model.specs.Databases.{RecordTable}
-use Rattle.spiral_model.specs.Frames.{Message, IsOne}
-use Rattle.spiral_model.specs.Checks.{Outcome, passes, refuses, ends_before, header_len_in, body_len_in, whole_refusal, database_refusal}
-use Rattle.spiral_model.proofs.DatabaseFrames.{same_outcome, never_ends, body_same, name_len_same, database_refusal_is, same_refusal, one_of_front}
-use Rattle.spiral_model.proofs.SpelledDatabases.{refused_not_spelled}
+use Rattle.spiral_frames.specs.Frames.{Message, IsOne}
+use Rattle.spiral_frames.specs.Checks.{Outcome, passes, refuses, ends_before, header_len_in, body_len_in}
+use Rattle.spiral_frames.specs.FrameChecks.{front_outcome, whole_refusal, database_refusal}
+use Rattle.spiral_frames.proofs.DatabaseFrames.{same_outcome, never_ends, body_same, name_len_same, database_refusal_is, same_refusal, one_of_front}
+use Rattle.spiral_frames.proofs.SpelledDatabases.{refused_not_spelled}
 use Rattle.record_store.specs.declared.decoding.Front.{Front}
 use Rattle.record_store.specs.declared.storing.DbError.{DbError}
 use Rattle.record_store.specs.declared.storing.DbError.TheVariants.{Frame}
-use Rattle.record_store.specs.Decoding.{front_outcome, refusal_by, HasNumbers}
+use Rattle.record_store.specs.Decoding.{refusal_by, HasNumbers}
 use Rattle.record_store.specs.Storing.{ReadsDatabase}
 use Rattle.record_store.proofs.Wholes.{frame_len_of}
 
@@ -90,9 +92,9 @@ module _ (x front : List ℕ) (read : front ≡ take 286 x) (below : All (λ b. 
       pub refused_late : (error : FrameError) → database_refusal bytes ≡ Some error → database_refusal x ≡ Some error
       refused_late error h = sym same ∙ h
 
-      pub read_one : (m : Message) → IsOne 6 bytes m × (database_refusal bytes ≡ None) → IsOne 6 x m × (database_refusal x ≡ None)
+      pub read_one : (m : Message) → IsOne Database bytes m × (database_refusal bytes ≡ None) → IsOne Database x m × (database_refusal x ≡ None)
       read_one m h = (
-        one_of_front x len whole_passed (whole_len ∙ sym len_is) some_body m (subst (λ (y : List ℕ). IsOne 6 y m) again h.0) (ap database_refusal (sym again) ∙ h.1),
+        one_of_front x len whole_passed (whole_len ∙ sym len_is) some_body m (subst (λ (y : List ℕ). IsOne Database y m) again h.0) (ap database_refusal (sym again) ∙ h.1),
         sym same ∙ h.1,
       )
 

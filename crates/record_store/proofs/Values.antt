@@ -4,7 +4,7 @@ use Rattle.std.proofs.lemmas.List.{get_or-take, get_or-drop, drop_all, take_all}
 use Rattle.std.proofs.Math.Nat.{mul-le-mul_right}
 use Rattle.negacyclic.specs.Digits.{digit, number_of}
 use Rattle.negacyclic.proofs.Digits.{get_or-repacked, digit-below, digit-of_zero, number_of-nil}
-use Rattle.spiral_model.specs.declared.param_set.ParamSet.{ParamSet}
+use Rattle.spiral_sets.specs.declared.param_set.ParamSet.{ParamSet}
 use Rattle.spiral_model.specs.Sets.{entries, values_count, p}
 use Rattle.spiral_model.specs.Records.{values_of, entry_of}
 use Rattle.spiral_model.specs.Databases.{RecordTable, IsTable, record_count, record_at}

@@ -1,12 +1,14 @@
 -- A whole input as a database's frame, from its first numbers.
 use Rattle.std.proofs.Common.{◌≡◌, ℕ, ◌+◌, ◌*◌, ◌<◌, List, length, drop, All, Some, None, refl, ap, subst, ◌∙◌, arith}
-use Rattle.spiral_model.specs.declared.frame_error.FrameError.TheVariants.{Short, Extra}
+use Rattle.frame_headers.specs.declared.frame_error.FrameError.TheVariants.{Short, Extra}
+use Rattle.frame_headers.specs.declared.kind.FrameKind.TheVariants.{Database}
 use Rattle.spiral_model.specs.Databases.{RecordTable, IsTable}
-use Rattle.spiral_model.specs.Frames.{IsOne, database_message}
-use Rattle.spiral_model.specs.Checks.{passes, header_len_in, body_len_in, database_refusal}
-use Rattle.spiral_model.proofs.DatabaseFrames.{has_passed, table_in, is_table, is_one, short_refused, longer_refused, not_refused}
+use Rattle.spiral_frames.specs.Frames.{IsOne, database_message}
+use Rattle.spiral_frames.specs.Checks.{passes, header_len_in, body_len_in}
+use Rattle.spiral_frames.specs.FrameChecks.{front_outcome, database_refusal}
+use Rattle.spiral_frames.proofs.DatabaseFrames.{has_passed, table_in, is_table, is_one, short_refused, longer_refused, not_refused}
 use Rattle.record_store.specs.declared.decoding.Front.{Front}
-use Rattle.record_store.specs.Decoding.{front_outcome, HasNumbers}
+use Rattle.record_store.specs.Decoding.{HasNumbers}
 
 -- the table that the numbers give
 abbrev pub table_of : Front → List ℕ → RecordTable
@@ -36,9 +38,9 @@ module _ (x : List ℕ) (front : Front) (passed : front_outcome x ≡ passes) (h
     decode_table =
         subst (λ (t : RecordTable). IsTable t) same_table (is_table x front.set below has.named (has_passed x front.set has.named passed) whole_is)
 
-    pub decode_one : IsOne 6 x (database_message (table_of front (drop front.start x)))
+    pub decode_one : IsOne Database x (database_message (table_of front (drop front.start x)))
     decode_one =
-        subst (λ (t : RecordTable). IsOne 6 x (database_message t)) same_table (is_one x front.set below has.named (has_passed x front.set has.named passed) whole_is)
+        subst (λ (t : RecordTable). IsOne Database x (database_message t)) same_table (is_one x front.set below has.named (has_passed x front.set has.named passed) whole_is)
 
     pub decode_passes : database_refusal x ≡ None
     decode_passes = not_refused x passed whole_is

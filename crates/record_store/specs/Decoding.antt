@@ -1,16 +1,14 @@
 -- How a database's frame is decoded: its first numbers, and then the whole.
-use Rattle.std.specs.Prelude.{ℕ, List, ◌≡◌, ◌+◌, ◌*◌, ◌^◌, ◌<◌, ◌≤◌, ◌++◌, length, Option, Some, None, Result, Ok, Err}
-use Rattle.spiral_model.specs.declared.frame_error.FrameError.{FrameError}
-use Rattle.spiral_model.specs.declared.frame_error.FrameError.TheVariants.{Short}
+use Rattle.std.specs.Prelude.{ℕ, List, ◌≡◌, ◌+◌, ◌*◌, ◌<◌, ◌≤◌, length, Option, Some, None, Result, Ok, Err}
+use Rattle.frame_headers.specs.declared.frame_error.FrameError.{FrameError}
+use Rattle.frame_headers.specs.declared.frame_error.FrameError.TheVariants.{Short}
+use Rattle.frame_headers.specs.declared.kind.FrameKind.TheVariants.{Database}
 use Rattle.spiral_model.specs.Sets.{IsSet, max_records, capacity}
 use Rattle.spiral_model.specs.Databases.{RecordTable}
-use Rattle.spiral_model.specs.Frames.{IsOne, database_message}
-use Rattle.spiral_model.specs.Checks.{Outcome, passes, refuses, ends_before, checked, header_checks, after_header, set_in, header_len_in, body_len_in, number_at, database_refusal}
+use Rattle.spiral_frames.specs.Frames.{IsOne, database_message}
+use Rattle.spiral_frames.specs.Checks.{Outcome, passes, refuses, ends_before, set_in, header_len_in, body_len_in, number_at}
+use Rattle.spiral_frames.specs.FrameChecks.{database_refusal}
 use Rattle.record_store.specs.declared.decoding.Front.{Front}
-
--- what the checks of a database's first bytes find
-abbrev pub front_outcome : List ℕ → Outcome
-front_outcome bytes = checked (header_checks (2 ^ 6) bytes ++ after_header (set_in bytes) bytes) (length bytes)
 
 -- the refusal of an input of this size whose checks don't pass
 abbrev pub refusal_by : Outcome → ℕ → Option FrameError
@@ -39,5 +37,5 @@ ReadsNumbers bytes outcome (Err error) = refusal_by outcome (length bytes) ≡ S
 
 -- a whole frame is decoded, or refused
 abbrev pub Decodes : List ℕ → Result RecordTable FrameError → Type 0
-Decodes bytes (Ok db) = IsOne 6 bytes (database_message db) × (database_refusal bytes ≡ None)
+Decodes bytes (Ok db) = IsOne Database bytes (database_message db) × (database_refusal bytes ≡ None)
 Decodes bytes (Err error) = database_refusal bytes ≡ Some error

@@ -1,6 +1,6 @@
 -- What is prepared as a database, and why it may not be.
 use Rattle.std.specs.Prelude.{ℕ, List, ◌≡◌, ◌≢◌, ◌⊎◌, ◌*◌, ◌%◌, ◌<◌, ◌≤◌, length, Result, Ok, Err}
-use Rattle.spiral_model.specs.declared.param_set.ParamSet.{ParamSet}
+use Rattle.spiral_sets.specs.declared.param_set.ParamSet.{ParamSet}
 use Rattle.spiral_model.specs.Sets.{max_records, capacity}
 use Rattle.spiral_model.specs.Databases.{RecordTable, IsTable}
 use Rattle.record_store.specs.declared.preparing.PrepareError.{PrepareError}

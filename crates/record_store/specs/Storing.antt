@@ -4,9 +4,10 @@ use Rattle.pir_io.specs.declared.fault.IoFault.{IoFault}
 use Rattle.pir_io.specs.declared.fault.IoFault.TheVariants.{Failed, NoMemory as out_of_memory}
 use Rattle.pir_io.specs.Files.{FilesSeen, content_of, KeepsOthers}
 use Rattle.pir_io.specs.Reading.{OnlyRead, FailedReading, FailedWriting, HoldsPrefix}
+use Rattle.frame_headers.specs.declared.kind.FrameKind.TheVariants.{Database}
 use Rattle.spiral_model.specs.Databases.{RecordTable}
-use Rattle.spiral_model.specs.Frames.{IsOne, frame_of, database_message}
-use Rattle.spiral_model.specs.Checks.{database_refusal}
+use Rattle.spiral_frames.specs.Frames.{IsOne, frame_of, database_message}
+use Rattle.spiral_frames.specs.FrameChecks.{database_refusal}
 use Rattle.record_store.specs.declared.storing.DbError.{DbError}
 use Rattle.record_store.specs.declared.storing.DbError.TheVariants.{Frame, File, NoMemory}
 
@@ -18,7 +19,7 @@ error_of out_of_memory = NoMemory
 -- Each answer of a read, and where it comes.
 abbrev pub ReadCause : FilesSeen → FilesSeen → List ℕ → Result RecordTable DbError → Type 0
 ReadCause old new name (Ok db) =
-    IsTrue old.tells → IsOne 6 (content_of old name) (database_message db) × (database_refusal (content_of old name) ≡ None)
+    IsTrue old.tells → IsOne Database (content_of old name) (database_message db) × (database_refusal (content_of old name) ≡ None)
 ReadCause old new name (Err (Frame error)) = IsTrue old.tells → database_refusal (content_of old name) ≡ Some error
 ReadCause old new name (Err File) = FailedReading old new name
 ReadCause old new name (Err NoMemory) = Unit {0}
@@ -26,7 +27,7 @@ ReadCause old new name (Err NoMemory) = Unit {0}
 -- What is refused as no database's frame is the frame of none.
 abbrev pub NoneSpelled : FilesSeen → List ℕ → Result RecordTable DbError → Type 0
 NoneSpelled old name (Ok _) = Unit {0}
-NoneSpelled old name (Err (Frame _)) = IsTrue old.tells → (db : RecordTable) → IsOne 6 (content_of old name) (database_message db) → ⊥
+NoneSpelled old name (Err (Frame _)) = IsTrue old.tells → (db : RecordTable) → IsOne Database (content_of old name) (database_message db) → ⊥
 NoneSpelled old name (Err File) = Unit {0}
 NoneSpelled old name (Err NoMemory) = Unit {0}
 

@@ -1,9 +1,9 @@
 ghost use Rattle.std.specs.Prelude.{◌≡◌, ◌<◌, ◌≤◌, ◌^◌, MatchOption, slice_index};
-ghost use Rattle.spiral_model.specs.Sets.{entries, max_records};
+ghost use Rattle.spiral_model.specs.Sets.{IsSet, entries, max_records};
 ghost use Rattle.spiral_model.specs.Records.{entry_of};
 ghost use Rattle.spiral_model.specs.Databases.{record_count, record_at, values_at};
 
-use spiral_model::ParamSet;
+use spiral_sets::ParamSet;
 use std::marker::Model;
 
 /// A database: records of one length in bytes, one after the other. No record is longer than the set's capacity, and
@@ -26,6 +26,14 @@ impl Model for Database {
 }
 
 impl Database {
+    /// The set of the database.
+    pub fn set(&self) -> ParamSet
+        ensures value { result ≡ self.now.set }
+        ensures known { IsSet result }
+    {
+        self.set
+    }
+
     /// How many records there are.
     pub fn count(&self) -> u32
         ensures value { result ≡ record_count self.now }

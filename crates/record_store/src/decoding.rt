@@ -1,10 +1,12 @@
 ghost use Rattle.std.specs.Prelude.{◌≡◌, ◌+◌, ◌*◌, ◌<◌, ◌≤◌, length, drop, Some, All, IfOk};
 ghost use Rattle.spiral_model.specs.Sets.{IsSet, IsBuilt};
-ghost use Rattle.spiral_model.specs.Checks.{checked, database_checks, set_in, header_len_in, body_len_in, number_at};
-ghost use Rattle.record_store.specs.Decoding.{ReadsNumbers, front_outcome, Decodes};
+ghost use Rattle.spiral_frames.specs.Checks.{checked, set_in, header_len_in, body_len_in};
+ghost use Rattle.spiral_frames.specs.FrameChecks.{database_checks, front_outcome};
+ghost use Rattle.record_store.specs.Decoding.{ReadsNumbers, Decodes};
 
 use crate::Database;
-use spiral_model::{FrameError, HeaderRead, ParamSet, read_header};
+use frame_headers::{FrameError, HeaderRead, number_at, read_header};
+use spiral_sets::ParamSet;
 
 /// Databases alone, kind 6, are accepted.
 const DATABASES: u8 = 1 << 6;
@@ -67,7 +69,7 @@ fn numbers_behind(bytes: &[u8], set: ParamSet, body: u64, start: usize) -> Resul
     if bytes.len() < start + 8 {
         return Err(short(bytes));
     }
-    let count = read_number(bytes, start);
+    let count = number_at(bytes, start);
     if count > set.max_records() {
         return Err(FrameError::TooMany {
             place,
@@ -77,7 +79,7 @@ fn numbers_behind(bytes: &[u8], set: ParamSet, body: u64, start: usize) -> Resul
     if bytes.len() < start + 16 {
         return Err(short(bytes));
     }
-    let length = read_number(bytes, start + 8);
+    let length = number_at(bytes, start + 8);
     if length == 0 || length > set.capacity() {
         return Err(FrameError::RecordLength {
             place: place + 8,
@@ -96,16 +98,6 @@ fn numbers_behind(bytes: &[u8], set: ParamSet, body: u64, start: usize) -> Resul
         length: length as u32,
         start: start + 16,
     })
-}
-
-/// The number that 8 bytes write, the least first.
-fn read_number(bytes: &[u8], place: usize) -> u64
-    requires { place + 8 ≤ length bytes.now }
-    ensures { result ≡ number_at bytes.now place }
-{
-    let mut number = [0; 8];
-    number.copy_from_slice(&bytes[place..place + 8]);
-    u64::from_le_bytes(number)
 }
 
 /// The database whose frame the bytes are. It takes no memory.

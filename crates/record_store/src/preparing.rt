@@ -3,7 +3,7 @@ ghost use Rattle.spiral_model.specs.Sets.{IsSet};
 ghost use Rattle.record_store.specs.Preparing.{ChecksLength, Prepares};
 
 use crate::Database;
-use spiral_model::ParamSet;
+use spiral_sets::ParamSet;
 use thiserror::Error;
 
 /// Why bytes are not the records of a database.

@@ -5,9 +5,9 @@ ghost use Rattle.record_store.specs.Storing.{ReadsDatabase, WritesDatabase};
 use crate::Database;
 use crate::decoding::{decode, read_numbers};
 use crate::encoding::encode;
+use frame_headers::FrameError;
 use no_memory::NoMemory;
 use pir_io::{Files, IoFault};
-use spiral_model::FrameError;
 use std::alloc::Global;
 use thiserror::Error;
 

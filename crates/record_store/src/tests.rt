@@ -2,7 +2,7 @@
 use super::*;
 use no_memory::NoMemory;
 use pir_io::MemFiles;
-use spiral_model::set_at;
+use spiral_sets::set_at;
 use std::alloc::Global;
 use std::process::Abort;
 use std::test::Fail;

@@ -7,7 +7,8 @@ use Rattle.spiral_model.specs.Sampling.{uniform_poly, error_poly}
 use Rattle.spiral_model.specs.Ciphertexts.{encrypted_row, encrypted_rows, encrypted}
 use Rattle.regev_code.specs.Shapes.{IsCipher}
 use Rattle.regev_code.proofs.Samples.{length-uniform_poly}
-use Rattle.regev_code.proofs.Rows.{length-ring_add, rows_none, rows_all}
+use Rattle.negacyclic.proofs.Lengths.{length-ring_add}
+use Rattle.regev_code.proofs.Rows.{rows_none, rows_all}
 
 -- row 0 alone
 pub encrypted_first : (N E : ℕ) (words : List ℕ) (start : ℕ) (drawn first : List ℕ) (none one : List (List ℕ)) → E ≡ N → drawn ≡ uniform_poly E words start → first ≡ drawn
@@ -30,7 +31,7 @@ encrypted_all_rows N words start secrets messages rows i h g so_far =
 
 length-encrypted_row : (N : ℕ) (a secret error message : List ℕ) → length (encrypted_row N a secret error message) ≡ N
 unfolding encrypted_row
-length-encrypted_row N a secret error message = length-ring_add N (ring_add q N (ring_mul q N secret a) error) message
+length-encrypted_row N a secret error message = length-ring_add q N (ring_add q N (ring_mul q N secret a) error) message
 
 length-encrypted_rows : (N : ℕ) (words : List ℕ) (start : ℕ) (a : List ℕ) (secrets messages : List (List ℕ)) → length messages ≡ length secrets
     → length (encrypted_rows N words start a secrets messages) ≡ length messages

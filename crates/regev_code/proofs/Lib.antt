@@ -4,6 +4,8 @@ pub mod Secrets
 pub mod Rows
 pub mod Encryptions
 pub mod Runs
+pub mod MessageLists
+pub mod Draws
 pub mod Products
 pub mod DigitSums
 pub mod Rooms

@@ -1,16 +1,11 @@
 -- The least width of each set, and how many digits its room holds.
-use Rattle.std.proofs.Common.{◌≡◌, ℕ, ◌*◌, ◌≤◌, refl, arith, leb, leb-true, true, ap}
+use Rattle.std.proofs.Common.{◌≡◌, ℕ, ◌*◌, ◌≤◌, refl, arith, ap}
 use Rattle.std.proofs.Math.Nat.{mul-le-mul_right}
-use Rattle.std.specs.List.{AllByRecursion}
-use Rattle.spiral_model.specs.declared.param_set.ParamSet.{ParamSet}
-use Rattle.spiral_model.specs.declared.sets.TheConstants.{SETS}
-use Rattle.spiral_model.specs.Sets.{IsSet, digit_count}
-use Rattle.spiral_model.proofs.EachSet.{each_set}
+use Rattle.spiral_sets.specs.declared.param_set.ParamSet.{ParamSet}
+use Rattle.spiral_model.specs.Sets.{IsSet, digit_count, smallest_width}
+use Rattle.spiral_sets.proofs.SetBounds.{at_least}
 use Rattle.gadget_digits.proofs.DigitRows.{digit_count-fewer}
-use Rattle.regev_code.specs.Products.{smallest_width, IsWidth}
-
-at_least : (f : ParamSet → ℕ) (bound : ℕ) → AllByRecursion (λ set. leb bound (f set) ≡ true) SETS → (set : ParamSet) → IsSet set → bound ≤ f set
-at_least f bound all set is = leb-true bound (f set) (each_set (λ set. leb bound (f set) ≡ true) all set is)
+use Rattle.regev_code.specs.Products.{IsWidth}
 
 pub smallest_width-some : (set : ParamSet) → IsSet set → 1 ≤ smallest_width set
 smallest_width-some = at_least (λ set. smallest_width set) 1 (refl, (refl, (refl, (refl, (refl, (refl, (refl, (refl, (refl, (refl, tt))))))))))

@@ -1,16 +1,14 @@
 -- The rows of an encryption, one after the other.
-use Rattle.std.proofs.Common.{◌≡◌, ℕ, zero, suc, ◌+◌, ◌*◌, ◌<◌, ◌≤◌, pos, ◌+ℤ◌, ◌≤ℤ◌, unsigned_abs, Bool, true, false, List, [], ◌∷◌, ◌++◌, length, get_or, take, replicate, All, refl, sym, ◌∙◌, ap, arith, add-one, append_assoc, take_all}
-use Rattle.std.proofs.lemmas.Int.{ints}
-use Rattle.std.proofs.lemmas.List.{length-map, get_or-map, get_or-replicate}
-use Rattle.negacyclic.specs.Ring.{at, reduced, ring_add, ring_mul, product_at}
-use Rattle.ring_poly.proofs.Reduction.{reduced_from_places}
+use Rattle.std.proofs.Common.{◌≡◌, ℕ, zero, suc, ◌+◌, ◌*◌, ◌<◌, ◌≤◌, Bool, true, false, List, [], ◌∷◌, ◌++◌, length, get_or, take, replicate, All, refl, sym, ◌∙◌, ap, arith, add-one, append_assoc, take_all}
+use Rattle.std.proofs.lemmas.List.{length-map, get_or-map}
+use Rattle.negacyclic.specs.Ring.{ring_add, ring_mul}
+use Rattle.negacyclic.proofs.Lengths.{product_from_zeros}
 use Rattle.negacyclic.proofs.Ring.{ring_add_comm}
-use Rattle.negacyclic.proofs.Stands.{length-reduced, reduced_below}
 use Rattle.spiral_model.specs.Sets.{q}
 use Rattle.ring_poly.proofs.Modulus.{q_some}
 use Rattle.spiral_model.specs.Sampling.{error_poly, secret_poly}
 use Rattle.spiral_model.specs.Ciphertexts.{encrypted_row, encrypted_rows}
-use Rattle.regev_code.proofs.Samples.{residue_plain, length-secret_poly}
+use Rattle.regev_code.proofs.Samples.{length-secret_poly}
 use Rattle.regev_code.specs.Seen.{Secrets}
 use Rattle.regev_code.specs.Shapes.{OfDegree, polynomial_of, numbers_under, under}
 
@@ -66,41 +64,11 @@ pub rows_all : (N : ℕ) (words : List ℕ) (start : ℕ) (a : List ℕ) (secret
     → encrypted_rows N words start a (take i secrets) (take i messages) ≡ encrypted_rows N words start a secrets messages
 rows_all N words start a secrets messages i h g = rw (take_all i secrets h, take_all i messages g) refl
 
-pub length-ring_mul : (N : ℕ) (a b : List ℕ) → length (ring_mul q N a b) ≡ N
-unfolding ring_mul
-length-ring_mul N a b = length-reduced q N (product_at N (at a) (at b))
-
-pub length-ring_add : (N : ℕ) (a b : List ℕ) → length (ring_add q N a b) ≡ N
-unfolding ring_add
-length-ring_add N a b = length-reduced q N (λ k. at a k +ℤ at b k)
-
-at_is : (a : List ℕ) (k : ℕ) → at a k ≡ pos (get_or a k 0)
-unfolding at
-at_is a k = refl
-
--- A product that is added to zeros.
-added_to_zeros : (N : ℕ) (p : List ℕ) → length p ≡ N → All (λ x. x < q) p → ring_add q N (replicate N 0) p ≡ p
-unfolding ring_add
-added_to_zeros N p e below =
-    sym
-    (reduced_from_places q N (λ k. at (replicate N 0) k +ℤ at p k) p e
-    (λ k h.
-    let none : at (replicate N 0) k ≡ pos 0 = at_is (replicate N 0) k ∙ ap (λ (x : ℕ). pos x) (get_or-replicate {A = ℕ} N k 0 0 h) in
-    let here : at p k ≡ pos (get_or p k 0) = at_is p k in
-    let small : get_or p k 0 < q = below k 0 (omega arith) in
-    let from : pos 0 ≤ℤ (at (replicate N 0) k +ℤ at p k) = omega (arith, ints) in
-    let size : get_or p k 0 ≡ unsigned_abs (at (replicate N 0) k +ℤ at p k) = omega (arith, ints) in
-    residue_plain q (get_or p k 0) (at (replicate N 0) k +ℤ at p k) from size small))
-
-pub product_from_zeros : (N : ℕ) (a b : List ℕ) → ring_add q N (replicate N 0) (ring_mul q N a b) ≡ ring_mul q N a b
-unfolding ring_mul
-product_from_zeros N a b =
-    added_to_zeros N (reduced q N (product_at N (at a) (at b))) (length-reduced q N (product_at N (at a) (at b))) (reduced_below q N (product_at N (at a) (at b)) q_some)
-
+-- the product of a secret and the uniform part, added to a row
 pub product_added : (N L M : ℕ) (a uniform secret form zeros sum poly row new : List ℕ) → L ≡ N → M ≡ N → uniform ≡ a → form ≡ secret → zeros ≡ replicate L 0
     → sum ≡ ring_add q N zeros (ring_mul q N form uniform) → poly ≡ sum → new ≡ ring_add q M row poly → new ≡ ring_add q N row (ring_mul q N secret a)
 product_added N L M a uniform secret form zeros sum poly row new el em seen same none summed copied added =
-    let product = product_from_zeros N secret a in
+    let product = product_from_zeros q N secret a q_some in
     let all : zeros ≡ replicate N 0 = none ∙ ap (λ (n : ℕ). replicate {A = ℕ} n 0) el in cc
 
 -- A row, from its error, its product and its message in this order.

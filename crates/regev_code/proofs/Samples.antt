@@ -1,15 +1,15 @@
 -- The numbers that words give, and the lists of them.
-use Rattle.std.proofs.Common.{◌≡◌, ℕ, ◌+◌, ◌-◌, ◌*◌, ◌/◌, ◌%◌, ◌<◌, ◌≤◌, ℤ, pos, negsuc, ◌-ℤ◌, ◌<ℤ◌, ◌≤ℤ◌, unsigned_abs, bit_and, count_ones, List, length, get_or, All, sym, arith, mod-lt, mod-eq_of_lt, to_z, of_z, w8}
+use Rattle.std.proofs.Common.{◌≡◌, ℕ, ◌+◌, ◌*◌, ◌/◌, ◌%◌, ◌<◌, ◌≤◌, ℤ, pos, ◌-ℤ◌, bit_and, count_ones, List, length, get_or, All, arith, mod-lt, to_z, of_z, w8}
 use Rattle.std.specs.List.{range_with_len}
 use Rattle.std.proofs.lemmas.Int.{ints}
 use Rattle.std.proofs.lemmas.Nat.{and_mask, ones-le}
 use Rattle.std.proofs.lemmas.List.Elements.{All-map}
 use Rattle.std.proofs.lemmas.List.FromFn.{fill_by_all, length-map-range_with_len}
 use Rattle.negacyclic.specs.Residues.{residue}
-use Rattle.ring_poly.proofs.Reduction.{reduced_from_places}
+use Rattle.negacyclic.proofs.Reduction.{reduced_from_places}
 use Rattle.negacyclic.proofs.Stands.{length-reduced, reduced_below}
 use Rattle.spiral_model.specs.Sets.{q}
-use Rattle.spiral_model.specs.Switched.{IsTernary}
+use Rattle.spiral_model.specs.Replies.{IsTernary}
 use Rattle.spiral_model.specs.Sampling.{uniform_number, uniform_poly, error_number, error_poly, secret_number, secret_numbers, secret_poly}
 use Rattle.ring_poly.proofs.Modulus.{q_some}
 
@@ -21,19 +21,6 @@ error_read word =
     let few_low : count_ones (word % 65536) ≤ 16 = ones-le 16 (word % 65536) (omega arith) in
     let few_high : count_ones (word / 65536 % 65536) ≤ 16 = ones-le 16 (word / 65536 % 65536) (omega arith) in
     rw (low, high) (omega (arith, ints))
-
--- the residue of a small number below 0, and of one from 0 on
-pub residue_negative : (q n : ℕ) (z : ℤ) → z <ℤ pos 0 → n ≡ unsigned_abs z → n < q → q - n ≡ residue q z
-unfolding residue
-residue_negative q n (pos a) below e small = absurd (omega (arith, ints))
-residue_negative q n (negsuc a) below e small =
-    let within : a < q = omega arith in
-    let same : a % q ≡ a = mod-eq_of_lt within in rw same (omega arith)
-
-pub residue_plain : (q n : ℕ) (z : ℤ) → pos 0 ≤ℤ z → n ≡ unsigned_abs z → n < q → n ≡ residue q z
-unfolding residue
-residue_plain q n (pos a) from e small = rw e (sym (mod-eq_of_lt (rw e at small)))
-residue_plain q n (negsuc a) from e small = absurd (omega (arith, ints))
 
 -- The uniform part, from its places; its numbers are residues.
 pub uniform_all : (words : List ℕ) (start : ℕ) (out : List ℕ) (N : ℕ) → length out ≡ N

@@ -2,11 +2,12 @@
 use Rattle.std.proofs.Common.{◌≡◌, ℕ, ◌+◌, ◌*◌, ℤ, Bool, true, false, List, [], ◌∷◌, ◌++◌, length, map, if◌then◌else◌, Some, None, All, ◌∙◌, ap, arith}
 use Rattle.std.specs.List.{range_with_len}
 use Rattle.std.specs.Option.{option_to_list}
-use Rattle.std.proofs.lemmas.List.Elements.{All-nil, All-cons, All-map}
-use Rattle.std.proofs.lemmas.List.FromFn.{fill_by_all, get_or-map-range_with_len, length-map-range_with_len, map-range_with_len_more}
+use Rattle.std.proofs.lemmas.List.Elements.{All-nil, All-cons}
+use Rattle.std.proofs.lemmas.List.FromFn.{length-map-range_with_len}
+use Rattle.negacyclic.proofs.Lists.{same_range, all_range, pushed_more}
 use Rattle.spiral_model.specs.Sampling.{secret_numbers}
-use Rattle.spiral_model.specs.Queries.{secret_rows}
-use Rattle.spiral_model.specs.declared.param_set.ParamSet.{ParamSet}
+use Rattle.spiral_model.specs.Dealing.{secret_rows}
+use Rattle.spiral_sets.specs.declared.param_set.ParamSet.{ParamSet}
 use Rattle.spiral_model.specs.Sets.{has_keys}
 use Rattle.regev_code.specs.Shapes.{rows_from, secrets_from, OfDegree}
 use Rattle.regev_code.proofs.Samples.{length-secret_numbers}
@@ -17,7 +18,7 @@ pub rows_more : (N M : ℕ) (words : List ℕ) (start r : ℕ) (rows new : List 
     → new ≡ rows_from N (r + 1) words start
 rows_more N M words start r rows new key e so_far drawn pushed =
     let here : key ≡ secret_numbers N words (start + r * N) = drawn ∙ ap (λ (n : ℕ). secret_numbers n words (start + r * n)) e in
-    let more = map-range_with_len_more {X = List ℤ} (λ i. secret_numbers N words (start + i * N)) 0 r r (omega arith) in cc
+    pushed_more (λ i. secret_numbers N words (start + i * N)) 0 r r rows new key (omega arith) so_far pushed here
 
 secret_numbers-some : (N : ℕ) (words : List ℕ) (start : ℕ) (has : Bool) → All (λ s. length s ≡ N) (option_to_list (if has then Some (secret_numbers N words start) else None))
 secret_numbers-some N words start true =
@@ -27,7 +28,7 @@ secret_numbers-some N words start false = All-nil (λ (s : List ℤ). length s �
 -- The secrets of a set: n of them, each of N numbers.
 pub rows_from-degree : (N n : ℕ) (words : List ℕ) (start : ℕ) → All (λ s. length s ≡ N) (rows_from N n words start)
 rows_from-degree N n words start =
-    All-map (λ (s : List ℤ). length s ≡ N) (λ r. secret_numbers N words (start + r * N)) (range_with_len 0 n) (λ k d h. length-secret_numbers N words _)
+    all_range (λ (s : List ℤ). length s ≡ N) (λ r. secret_numbers N words (start + r * N)) n (λ k h. length-secret_numbers N words _)
 
 pub length-rows_from : (N n : ℕ) (words : List ℕ) (start : ℕ) → length (rows_from N n words start) ≡ n
 length-rows_from N n words start = length-map-range_with_len (λ r. secret_numbers N words (start + r * N)) 0 n
@@ -42,15 +43,11 @@ secrets_from-degree set words start = record {
 rows_same : (has : Bool) (N n : ℕ) (words : List ℕ)
     → rows_from N n words (0 + (if has then N else 0)) ≡ map (λ r. secret_numbers N words ((if has then r + 1 else r) * N)) (range_with_len 0 n)
 rows_same true N n words =
-    fill_by_all (λ r. secret_numbers N words ((r + 1) * N)) (rows_from N n words (0 + N)) n [] (length-rows_from N n words (0 + N))
-    (λ k h.
-    let place : 0 + N + k * N ≡ (k + 1) * N = omega arith in
-    get_or-map-range_with_len (λ r. secret_numbers N words (0 + N + r * N)) 0 n k k [] h (omega arith) ∙ ap (λ (p : ℕ). secret_numbers N words p) place)
+    same_range (λ r. secret_numbers N words (0 + N + r * N)) (λ r. secret_numbers N words ((r + 1) * N)) n
+    (λ k h. let place : 0 + N + k * N ≡ (k + 1) * N = omega arith in ap (λ (p : ℕ). secret_numbers N words p) place)
 rows_same false N n words =
-    fill_by_all (λ r. secret_numbers N words (r * N)) (rows_from N n words (0 + 0)) n [] (length-rows_from N n words (0 + 0))
-    (λ k h.
-    let place : 0 + 0 + k * N ≡ k * N = omega arith in
-    get_or-map-range_with_len (λ r. secret_numbers N words (0 + 0 + r * N)) 0 n k k [] h (omega arith) ∙ ap (λ (p : ℕ). secret_numbers N words p) place)
+    same_range (λ r. secret_numbers N words (0 + 0 + r * N)) (λ r. secret_numbers N words (r * N)) n
+    (λ k h. let place : 0 + 0 + k * N ≡ k * N = omega arith in ap (λ (p : ℕ). secret_numbers N words p) place)
 
 pub secrets_from-rows : (set : ParamSet) (words : List ℕ) → (secrets_from set words 0).rows ≡ secret_rows set words
 unfolding secret_rows

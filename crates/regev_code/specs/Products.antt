@@ -1,32 +1,29 @@
 -- Shapes of ciphertexts in product form, and the widths of digits by which a set's ciphertexts are multiplied.
-use Rattle.std.specs.Prelude.{ℕ, List, ◌≡◌, ◌+◌, ◌*◌, ◌≤◌, length, All, if◌then◌else◌}
-use Rattle.spiral_model.specs.declared.param_set.ParamSet.{ParamSet}
-use Rattle.spiral_model.specs.Sets.{IsSet, digit_count}
+use Rattle.std.specs.Prelude.{ℕ, List, ◌≡◌, ◌+◌, ◌*◌, ◌≤◌, length, All}
+use Rattle.spiral_sets.specs.declared.param_set.ParamSet.{ParamSet}
+use Rattle.spiral_model.specs.Sets.{IsSet, digit_count, smallest_width}
+use Rattle.spiral_model.specs.Words.{Poly, Cipher}
 
 -- a ciphertext of so many rows, each of N coefficients
-pub record HasShape (N count : ℕ) (cipher : List (List ℕ)) : Type 0 where
+pub record HasShape (N count : ℕ) (cipher : Cipher) : Type 0 where
   pub rows_count : length cipher ≡ count
   pub degree : All (λ a. length a ≡ N) cipher
-
--- The least width of a set's digits, so that with the most digits: a direct set has the width of its GSW ciphertexts
--- and at most a wider one of its conversion keys; the others' narrowest keys are those of the selection side.
-abbrev pub smallest_width : ParamSet → ℕ
-smallest_width set = if set.direct then set.w_gsw else set.w_right
 
 -- a width for which a set's room suffices
 pub record IsWidth (set : ParamSet) (w : ℕ) : Type 0 where
   pub least : smallest_width set ≤ w
   pub most : w ≤ 56
 
--- what a set's room for a digit sum keeps: the digits of a polynomial at the least width, and one polynomial in each form
-pub record IsRoom (set : ParamSet) (digits poly form : List ℕ) : Type 0 where
+-- what a set's room for a digit sum keeps: the numbers of a polynomial, their digits at the least width, and one polynomial in each form
+pub record IsRoom (set : ParamSet) (numbers digits : List ℕ) (poly form : Poly) : Type 0 where
   pub known : IsSet set
+  pub numbers_count : length numbers ≡ set.degree
   pub digits_count : length digits ≡ digit_count (smallest_width set) * set.degree
   pub poly_degree : length poly ≡ set.degree
   pub form_degree : length form ≡ set.degree
 
 -- what the room for a set's products of ciphertexts keeps: its sums have n + 1 rows, or 2 where the set packs
-pub record IsScratch (set room : ParamSet) (matrix scalar : List (List ℕ)) (first second : List ℕ) : Type 0 where
+pub record IsScratch (set room : ParamSet) (matrix scalar : Cipher) (first second : Poly) : Type 0 where
   pub known : IsSet set
   pub same : room ≡ set
   pub matrix_shape : HasShape set.degree (set.n + 1) matrix

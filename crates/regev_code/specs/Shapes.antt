@@ -2,13 +2,14 @@
 use Rattle.std.specs.Prelude.{ℕ, ℤ, Bool, true, false, List, [], ◌≡◌, ◌+◌, ◌-◌, ◌*◌, ◌^◌, ◌<◌, ◌≤◌, length, map, if◌then◌else◌, slice_index_or, Some, None, All}
 use Rattle.std.specs.List.{range_with_len}
 use Rattle.std.specs.Option.{option_to_list}
-use Rattle.spiral_model.specs.declared.param_set.ParamSet.{ParamSet}
+use Rattle.spiral_sets.specs.declared.param_set.ParamSet.{ParamSet}
 use Rattle.spiral_model.specs.Sets.{has_keys}
+use Rattle.spiral_model.specs.Words.{Poly, Cipher, row_of}
 use Rattle.spiral_model.specs.Sampling.{secret_numbers, secret_poly}
 use Rattle.regev_code.specs.Seen.{Secrets, Cursor}
 
 -- the numbers of a secret as a polynomial, which has as many coefficients
-abbrev pub polynomial_of : List ℤ → List ℕ
+abbrev pub polynomial_of : List ℤ → Poly
 polynomial_of numbers = secret_poly (length numbers) numbers
 
 -- the numbers of the secret s_r, for r from 1 on
@@ -21,7 +22,7 @@ numbers_under secrets true = option_to_list secrets.scalar
 numbers_under secrets false = secrets.rows
 
 -- the same as polynomials of degree N
-abbrev pub under : ℕ → Secrets → Bool → List (List ℕ)
+abbrev pub under : ℕ → Secrets → Bool → List Poly
 under N secrets scalar = map (secret_poly N) (numbers_under secrets scalar)
 
 -- the secrets s_1 to s_n that the words from `start` on give, N words for each
@@ -45,7 +46,7 @@ pub record OfDegree (N : ℕ) (secrets : Secrets) : Type 0 where
   pub rows : All (λ s. length s ≡ N) secrets.rows
 
 -- what the rows of every ciphertext keep: there are at least two, fewer than 2^32, and all have one length
-pub record IsCipher (rows : List (List ℕ)) : Type 0 where
+pub record IsCipher (rows : Cipher) : Type 0 where
   pub some : 2 ≤ length rows
   pub few : length rows < 2 ^ 32
-  pub same : All (λ a. length a ≡ length (slice_index_or rows 0 [])) rows
+  pub same : All (λ a. length a ≡ length (row_of rows 0)) rows

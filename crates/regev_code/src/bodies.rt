@@ -10,7 +10,7 @@ pub struct KeyBody {
 }
 
 impl Model for KeyBody {
-    ghost use Rattle.spiral_model.specs.Queries.{CipherBody};
+    ghost use Rattle.spiral_model.specs.Bodies.{CipherBody};
 
     ghost Value = { CipherBody };
 
@@ -25,7 +25,7 @@ pub struct QueryBody {
 }
 
 impl Model for QueryBody {
-    ghost use Rattle.spiral_model.specs.Queries.{CipherBody};
+    ghost use Rattle.spiral_model.specs.Bodies.{CipherBody};
 
     ghost Value = { CipherBody };
 

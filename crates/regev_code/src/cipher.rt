@@ -1,6 +1,7 @@
 ghost use Rattle.std.specs.Prelude.{◌≡◌, ◌+◌, ◌<◌, ◌≤◌, ◌^◌, length, replicate, All, IfOk};
 ghost use Rattle.spiral_model.specs.Sets.{IsSet};
-ghost use Rattle.spiral_model.specs.Ciphertexts.{row_of, phase as phase_of};
+ghost use Rattle.spiral_model.specs.Words.{row_of};
+ghost use Rattle.spiral_model.specs.Ciphertexts.{phase as phase_of};
 ghost use Rattle.ring_poly.specs.Polynomials.{IsDegree};
 
 use no_memory::NoMemory;
@@ -71,7 +72,7 @@ impl Cipher {
     pub fn degree(&self) -> usize
         ensures { All (λ a. length a ≡ result) self.now }
     {
-        self.polys[0].coeffs().len()
+        self.polys[0].degree()
     }
 
     /// A row, counted from 0.
@@ -84,7 +85,13 @@ impl Cipher {
 }
 
 /// The phase in row `row` under that row's secret s: c_row - s c_0, the message and a small error.
-pub fn phase(ring: &Ring, secret: &Poly, c: &Cipher, row: u32) -> Result<Poly, NoMemory>
+pub fn phase(
+    _alloc: Global,
+    ring: &Ring,
+    secret: &Poly,
+    c: &Cipher,
+    row: u32,
+) -> Result<Poly, NoMemory>
     requires row_in { row < length c.now }
     requires secret { length secret.now ≡ ring.now }
     requires degree { All (λ a. length a ≡ ring.now) c.now }

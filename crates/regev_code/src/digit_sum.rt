@@ -1,7 +1,8 @@
 ghost use Rattle.std.specs.Prelude.{◌≡◌, ◌+◌, ◌*◌, ◌<◌, ◌≤◌, length, map, take, drop, All};
 ghost use Rattle.std.specs.List.{range_with_len};
 ghost use Rattle.spiral_model.specs.Sets.{q, digit_count as digit_count_of};
-ghost use Rattle.spiral_model.specs.Gadgets.{cipher_add, cipher_at, digit_sum};
+ghost use Rattle.spiral_model.specs.Gadgets.{cipher_add, digit_sum};
+ghost use Rattle.spiral_model.specs.Words.{cipher_at};
 ghost use Rattle.regev_code.specs.Products.{HasShape, IsWidth};
 
 use crate::{CipherT, Room};
@@ -24,13 +25,15 @@ fn load_digit(ring: &Ring, digits: &[u64], k: u32, poly: &mut Poly, form: &mut P
     ring.to_product(poly, form);
 }
 
-/// `add_digit_sum` in the parts of its room: the digits of x, at this width or a lesser one, and one of them in each form.
+/// `add_digit_sum` in the parts of its room: the numbers of x, their digits at this width or a lesser one, and one of
+/// these in each form.
 fn add_digits(
     ring: &Ring,
     x: &Poly,
     w: u32,
     key: &[CipherT],
     sum: &mut CipherT,
+    numbers: &mut [u64],
     digits: &mut [u64],
     poly: &mut Poly,
     form: &mut PolyT,
@@ -41,6 +44,7 @@ fn add_digits(
     requires keys { length key.now ≡ digit_count_of w }
     requires key { All (λ c. HasShape ring.now (length sum.old) c) key.now }
     requires sum { HasShape ring.now (length sum.old) sum.old }
+    requires numbers { length numbers.old ≡ ring.now }
     requires digits { digit_count_of w * ring.now ≤ length digits.old }
     requires poly { length poly.old ≡ ring.now }
     requires form { length form.old ≡ ring.now }
@@ -50,8 +54,9 @@ fn add_digits(
     ensures form { length form.new ≡ ring.now }
 {
     let count = digit_count(w);
+    x.coeffs_into(numbers);
     let used = &mut digits[..count as usize * ring.degree()];
-    digits_into(x.coeffs(), w, used);
+    digits_into(numbers, w, used);
     for k in 0..count {
         load_digit(ring, used, k, poly, form);
         sum.add_product(ring, form, &key[k as usize]);
@@ -78,6 +83,8 @@ pub fn add_digit_sum(
     ensures shape { HasShape ring.now (length sum.old) sum.new }
     ensures room { room.new ≡ room.old }
 {
+    let numbers = &mut room.numbers;
     let digits = &mut room.digits;
-    add_digits(ring, x, w, key, sum, digits, &mut room.poly, &mut room.form);
+    let (poly, form) = (&mut room.poly, &mut room.form);
+    add_digits(ring, x, w, key, sum, numbers, digits, poly, form);
 }

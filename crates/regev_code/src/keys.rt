@@ -1,25 +1,42 @@
 use crate::CipherT;
 use spiral_model::ParamSet;
+use std::marker::Model;
 
 /// A key by whose digit sums a ciphertext changes its secret: t ciphertexts in product form, for digits of w bits.
 #[derive(Debug, Drop)]
 pub struct SwitchKey {
-    pub w: u32,
-    pub ciphers: Vec<CipherT>,
+    pub(crate) w: u32,
+    pub(crate) ciphers: Vec<CipherT>,
+}
+
+impl Model for SwitchKey {
+    ghost use Rattle.spiral_model.specs.KeySwitching.{DigitKey};
+
+    ghost Value = { DigitKey };
+
+    ghost view = { λ k. record { w = k.w; ciphers = k.ciphers.items } };
 }
 
 /// The keys of a set in product form, in the order of a Setup body.
 #[derive(Debug, Drop)]
 pub struct EvalKeys {
-    pub set: ParamSet,
+    pub(crate) set: ParamSet,
     /// the automorphism key of round 0
-    pub round0: Vec<SwitchKey>,
+    pub(crate) round0: Vec<SwitchKey>,
     /// those of the left rounds 1 to nu1
-    pub left: Vec<SwitchKey>,
+    pub(crate) left: Vec<SwitchKey>,
     /// those of the right rounds 1 to rho
-    pub right: Vec<SwitchKey>,
+    pub(crate) right: Vec<SwitchKey>,
     /// the lift keys of rows 1 to n
-    pub lift: Vec<SwitchKey>,
+    pub(crate) lift: Vec<SwitchKey>,
     /// the conversion key, where the set has one
-    pub conv: Option<SwitchKey>,
+    pub(crate) conv: Option<SwitchKey>,
+}
+
+impl Model for EvalKeys {
+    ghost use Rattle.spiral_model.specs.Keys.{SetKeys};
+
+    ghost Value = { SetKeys };
+
+    ghost view = { λ k. record { set = k.set; round0 = k.round0.items; left = k.left.items; right = k.right.items; lift = k.lift.items; conv = k.conv } };
 }

@@ -2,6 +2,7 @@
 #![tactic(auto)]
 
 mod bodies;
+mod checks;
 mod cipher;
 mod digit_sum;
 mod draw;
@@ -16,6 +17,7 @@ mod seeded;
 mod tests;
 
 pub use bodies::{KeyBody, QueryBody};
+pub use checks::is_cipher;
 pub use cipher::{Cipher, phase};
 pub use digit_sum::add_digit_sum;
 pub use draw::{Draw, draw_cipher, draw_secret};

@@ -2,7 +2,7 @@ ghost use Rattle.std.specs.Prelude.{◌≡◌, ◌+◌, ◌<◌, ◌≤◌, leng
 ghost use Rattle.std.specs.List.{range_with_len};
 ghost use Rattle.negacyclic.specs.Ring.{ring_add, ring_mul};
 ghost use Rattle.spiral_model.specs.Sets.{IsSet, q};
-ghost use Rattle.spiral_model.specs.Ciphertexts.{row_of};
+ghost use Rattle.spiral_model.specs.Words.{row_of};
 ghost use Rattle.ring_poly.specs.Polynomials.{IsDegree};
 ghost use Rattle.regev_code.specs.Products.{HasShape};
 
@@ -43,6 +43,7 @@ fn zero_forms(alloc: Global, degree: usize, count: u32) -> Result<Vec<PolyT>, No
 }
 
 /// Writes 0 into each row.
+#[tactic(auto, using(negacyclic::proofs::Filled::filled_all))]
 fn clear_rows(rows: &mut [PolyT])
     ensures { rows.new ≡ map (λ i. replicate (length (row_of rows.old i)) 0) (range_with_len 0 (length rows.old)) }
 {
@@ -79,6 +80,7 @@ fn rows_from_form(ring: &Ring, from: &[PolyT], to: &mut [Poly])
 }
 
 /// Adds a times each row of `key` to that row of `sum`.
+#[tactic(auto, using(negacyclic::proofs::Filled::filled_all))]
 fn add_products(ring: &Ring, a: &PolyT, key: &[PolyT], sum: &mut [PolyT])
     requires same_length { length key.now ≡ length sum.old }
     requires degree { length a.now ≡ ring.now }

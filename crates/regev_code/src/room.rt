@@ -1,6 +1,5 @@
-ghost use Rattle.std.specs.Prelude.{◌≡◌, ◌+◌, ◌*◌, ◌<◌, ◌≤◌, length, replicate, IfOk};
-ghost use Rattle.spiral_model.specs.Sets.{IsSet, digit_count as digit_count_of};
-ghost use Rattle.regev_code.specs.Products.{smallest_width};
+ghost use Rattle.std.specs.Prelude.{◌≡◌, IfOk};
+ghost use Rattle.spiral_model.specs.Sets.{IsSet};
 
 use crate::CipherT;
 use gadget_digits::digit_count;
@@ -14,7 +13,9 @@ use std::marker::Model;
 #[derive(Drop)]
 pub struct Room {
     set: ParamSet,
-    /// the digits of a polynomial, at the set's least width
+    /// the numbers of a polynomial
+    pub(crate) numbers: Vec<u64>,
+    /// their digits, at the set's least width
     pub(crate) digits: Vec<u64>,
     /// one of its digits
     pub(crate) poly: Poly,
@@ -23,24 +24,14 @@ pub struct Room {
 }
 
 impl Model for Room {
-    ghost use Rattle.spiral_model.specs.declared.param_set.ParamSet.{ParamSet};
+    ghost use Rattle.spiral_sets.specs.declared.param_set.ParamSet.{ParamSet};
     ghost use Rattle.regev_code.specs.Products.{IsRoom};
 
     ghost Value = { ParamSet };
 
     ghost view = { λ r. r.set };
 
-    ghost invariant = { λ r. IsRoom r.set r.digits.items r.poly r.form };
-}
-
-/// The least width of a set's digits.
-fn least_width(set: &ParamSet) -> u32
-    requires { IsSet set.now }
-    ensures value { result ≡ smallest_width set.now }
-    ensures some { 1 ≤ result }
-    ensures most { result ≤ 56 }
-{
-    if set.direct { set.w_gsw } else { set.w_right }
+    ghost invariant = { λ r. IsRoom r.set r.numbers.items r.digits.items r.poly r.form };
 }
 
 impl Room {
@@ -50,9 +41,10 @@ impl Room {
         ensures { IfOk result (λ room. room ≡ set.now) }
     {
         let degree = set.degree as usize;
-        let count = digit_count(least_width(set)) as usize;
+        let count = digit_count(set.least_width()) as usize;
         Ok(Room {
             set: *set,
+            numbers: vec![in alloc; 0u64; degree]?,
             digits: vec![in alloc; 0u64; count * degree]?,
             poly: Poly::zero(alloc, degree)?,
             form: PolyT::zero(alloc, degree)?,
@@ -74,7 +66,7 @@ pub struct Scratch {
 }
 
 impl Model for Scratch {
-    ghost use Rattle.spiral_model.specs.declared.param_set.ParamSet.{ParamSet};
+    ghost use Rattle.spiral_sets.specs.declared.param_set.ParamSet.{ParamSet};
     ghost use Rattle.regev_code.specs.Products.{IsScratch};
 
     ghost Value = { ParamSet };

@@ -1,7 +1,7 @@
 ghost use Rattle.std.specs.Prelude.{◌≡◌, ◌+◌, ◌*◌, ◌<◌, ◌≤◌, length, replicate, All, IfOk, unsigned_abs};
 ghost use Rattle.negacyclic.specs.Residues.{residue};
 ghost use Rattle.spiral_model.specs.Sets.{q};
-ghost use Rattle.spiral_model.specs.Switched.{IsTernary};
+ghost use Rattle.spiral_model.specs.Replies.{IsTernary};
 ghost use Rattle.spiral_model.specs.Sampling.{uniform_number, uniform_poly, error_number, error_poly, secret_number, secret_numbers, secret_poly};
 
 use no_memory::NoMemory;

@@ -1,7 +1,7 @@
 ghost use Rattle.std.specs.Prelude.{◌≡◌, ◌+◌, ◌*◌, ◌^◌, ◌<◌, ◌≤◌, [], length, replicate, pos, map, slice_index_or, if◌then◌else◌, Some, None, IfOk, MatchOption};
 ghost use Rattle.spiral_model.specs.Sets.{IsSet, has_keys};
 ghost use Rattle.spiral_model.specs.Counts.{secret_words};
-ghost use Rattle.spiral_model.specs.Switched.{IsTernary};
+ghost use Rattle.spiral_model.specs.Replies.{IsTernary};
 ghost use Rattle.spiral_model.specs.Sampling.{secret_numbers};
 ghost use Rattle.ring_poly.specs.Polynomials.{IsDegree};
 ghost use Rattle.regev_code.specs.Shapes.{polynomial_of, secret_row, numbers_under, rows_from, secrets_from};
@@ -22,7 +22,7 @@ struct Key {
 
 impl Model for Key {
     ghost use Rattle.std.specs.Prelude.{◌≡◌, ℤ, List, length, All};
-    ghost use Rattle.spiral_model.specs.Switched.{IsTernary};
+    ghost use Rattle.spiral_model.specs.Replies.{IsTernary};
     ghost use Rattle.spiral_model.specs.Sampling.{secret_poly};
 
     ghost Value = { List ℤ };
@@ -94,19 +94,12 @@ impl Model for Secret {
     ghost invariant = { λ s. length s.rows.items < 2 ^ 31 };
 }
 
-/// Whether the client sends keys, and so has a scalar secret.
-fn sends_keys(set: &ParamSet) -> bool
-    ensures { result ≡ has_keys set.now }
-{
-    !set.direct || set.pack
-}
-
 /// How many words a set's secrets take.
 pub(crate) fn word_count(set: &ParamSet) -> usize
     requires { IsSet set.now }
     ensures { result ≡ secret_words set.now }
 {
-    let scalars = if sends_keys(set) { 1 } else { 0 };
+    let scalars = if set.has_keys() { 1 } else { 0 };
     set.degree as usize * (set.n as usize + scalars)
 }
 
@@ -116,7 +109,7 @@ fn first_row(set: &ParamSet, start: usize) -> usize
     requires room { start < 2 ^ 63 }
     ensures { result ≡ start + (if has_keys set.now then set.now.degree else 0) }
 {
-    if sends_keys(set) {
+    if set.has_keys() {
         start + set.degree as usize
     } else {
         start
@@ -135,7 +128,7 @@ fn scalar_from_words(
     requires enough { start + length scratch.old ≤ length words.now }
     ensures { IfOk result (λ key. key ≡ (if has_keys set.now then Some (secret_numbers (length scratch.old) words.now start) else None)) }
 {
-    if sends_keys(set) {
+    if set.has_keys() {
         Ok(Some(Key::from_words(alloc, words, start, scratch)?))
     } else {
         Ok(None)

@@ -1,9 +1,8 @@
-ghost use Rattle.std.specs.Prelude.{◌≡◌, ◌<◌, length, All, IsTrue};
-ghost use Rattle.spiral_model.specs.Sets.{q};
+ghost use Rattle.std.specs.Prelude.{◌≡◌, length, All, IsTrue};
 
 use super::*;
 use crate::sampling::{error_number, secret_number, uniform_number};
-use ring_poly::{Poly, Q, Ring};
+use ring_poly::{Poly, Ring, are_residues};
 use spiral_model::set_at;
 use std::alloc::Global;
 use std::process::Abort;
@@ -21,17 +20,10 @@ fn twos_then_ones(alloc: Global, front: usize) -> Result<Vec<u64>, Fail> {
     Ok(words)
 }
 
-#[tactic(auto, unfolding(spiral_model::specs::Sets::q))]
-fn are_residues(numbers: &[u64]) -> bool
-    ensures { IsTrue result → All (λ x. x < q) numbers.now }
-{
-    numbers.iter().all(|x| *x < Q)
-}
-
 fn are_of_degree(message: &[Poly], n: usize) -> bool
     ensures { IsTrue result → All (λ m. length m ≡ n) message.now }
 {
-    message.iter().all(|m| m.coeffs().len() == n)
+    message.iter().all(|m| m.degree() == n)
 }
 
 /// The polynomial whose 256 coefficients are all z.
@@ -39,6 +31,13 @@ fn constant(rt: &impl Abort, alloc: Global, z: u64) -> Result<Poly, Fail> {
     let numbers = vec![in alloc; z; 256]?;
     assert!(rt; are_residues(&numbers));
     Ok(Poly::from_coeffs(alloc, &numbers)?)
+}
+
+/// The coefficient of the last place.
+fn last_number(alloc: Global, a: &Poly) -> Result<Option<u64>, Fail> {
+    let mut numbers = vec![in alloc; 0u64; a.degree()]?;
+    a.coeffs_into(&mut numbers);
+    Ok(numbers.last().copied())
 }
 
 #[test]
@@ -94,12 +93,13 @@ fn encrypts_by_words_of_zero(rt: HostRuntime) -> Result<(), Fail> {
     let cipher = draw_cipher(alloc, &ring, &secret, false, &message, &mut draw)?;
     assert_eq!(rt; draw.used(), 512 + 4 * 256);
     assert_eq!(rt; (cipher.rows(), cipher.degree()), (3, 256));
-    assert_eq!(rt; cipher.row(0).coeffs().last(), Some(&0));
-    assert_eq!(rt; cipher.row(1).coeffs().last(), Some(&7));
-    assert_eq!(rt; cipher.row(2).coeffs().last(), Some(&900));
+    assert_eq!(rt; last_number(alloc, cipher.row(0))?, Some(0));
+    assert_eq!(rt; last_number(alloc, cipher.row(1))?, Some(7));
+    assert_eq!(rt; last_number(alloc, cipher.row(2))?, Some(900));
     // a is 0, so the phase is the message, whatever the secret
-    let opened = phase(&ring, secret.row(2), &cipher, 2)?;
-    assert_eq!(rt; opened.coeffs().first(), Some(&900));
+    let opened = phase(alloc, &ring, secret.row(2), &cipher, 2)?;
+    assert_eq!(rt; last_number(alloc, &opened)?, Some(900));
+    assert!(rt; is_cipher(&cipher, 256, 2) && !is_cipher(&cipher, 256, 1));
     let zero = Cipher::zero(alloc, &set, 1)?;
     assert_eq!(rt; zero.rows(), 2);
     Ok(())

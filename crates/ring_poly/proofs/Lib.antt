@@ -1,6 +1,4 @@
 pub mod Modulus
-pub mod Places
+pub mod Constants
 pub mod Powers
 pub mod Products
-pub mod Reduction
-pub mod ShiftPlace

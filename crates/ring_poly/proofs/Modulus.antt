@@ -1,7 +1,7 @@
 -- The modulus as the code writes it.
 use Rattle.std.proofs.Common.{◌≡◌, ◌<◌, refl, lit<}
-use Rattle.spiral_model.specs.Sets.{q}
-use Rattle.ring_poly.specs.declared.TheConstants.{Q}
+use Rattle.spiral_sets.specs.Sets.{q}
+use Rattle.spiral_sets.specs.declared.dimensions.TheConstants.{Q}
 
 pub q_is : q ≡ Q
 unfolding q

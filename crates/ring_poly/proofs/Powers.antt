@@ -3,8 +3,8 @@ use Rattle.std.proofs.Common.{◌≡◌, ℕ, ◌+◌, ◌*◌, ◌<◌, ◌⊎�
 use Rattle.negacyclic.specs.Residues.{residue}
 use Rattle.negacyclic.specs.Ring.{at, shift_at}
 use Rattle.negacyclic.proofs.Residues.{residue_of_residue}
-use Rattle.ring_poly.proofs.ShiftPlace.{shift_at-plain, shift_at-wrapped, shift_at-twice}
-use Rattle.spiral_model.specs.Sets.{q}
+use Rattle.negacyclic.proofs.ShiftPlace.{shift_at-plain, shift_at-wrapped, shift_at-twice}
+use Rattle.spiral_sets.specs.Sets.{q}
 use Rattle.ring_poly.specs.Polynomials.{AreResidues}
 
 -- where it keeps its sign

@@ -6,8 +6,8 @@ use Rattle.negacyclic.specs.Residues.{residue}
 use Rattle.negacyclic.specs.Ring.{at, product_at, ring_mul}
 use Rattle.negacyclic.proofs.Sums.{total_more}
 use Rattle.negacyclic.proofs.Turn.{product_term, product_term-plain, product_term-wrapped}
-use Rattle.ring_poly.proofs.Reduction.{residue_less_multiple, get_or-reduced}
-use Rattle.spiral_model.specs.Sets.{q}
+use Rattle.negacyclic.proofs.Reduction.{residue_less_multiple, get_or-reduced}
+use Rattle.spiral_sets.specs.Sets.{q}
 use Rattle.ring_poly.specs.Polynomials.{AreResidues}
 use Rattle.ring_poly.proofs.Modulus.{q_is, q_some}
 

@@ -1,6 +1,6 @@
 -- The lengths of polynomials, and what holds of each.
 use Rattle.std.specs.Prelude.{ℕ, List, ◌≡◌, ◌<◌, ◌⊎◌, All}
-use Rattle.spiral_model.specs.Sets.{q}
+use Rattle.spiral_sets.specs.Sets.{q}
 
 -- the two degrees
 abbrev pub IsDegree : ℕ → Type 0

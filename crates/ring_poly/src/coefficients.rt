@@ -1,12 +1,20 @@
-ghost use Rattle.std.specs.Prelude.{◌≡◌, ◌*◌, ◌^◌, ◌<◌, ◌≤◌, pos, neg_ℤ, unsigned_abs, length, replicate, ◌+ℤ◌, ◌-ℤ◌, ◌*ℤ◌, IfOk};
+ghost use Rattle.std.specs.Prelude.{◌≡◌, ◌*◌, ◌^◌, ◌<◌, ◌≤◌, pos, neg_ℤ, unsigned_abs, length, replicate, ◌+ℤ◌, ◌-ℤ◌, ◌*ℤ◌, ◌↔◌, IsTrue, IfOk};
 ghost use Rattle.negacyclic.specs.Residues.{residue, cen, norm};
 ghost use Rattle.negacyclic.specs.Ring.{at, shift_at, ring_add, ring_sub, ring_scale, ring_shift};
-ghost use Rattle.spiral_model.specs.Sets.{q};
+ghost use Rattle.spiral_sets.specs.Sets.{q};
 ghost use Rattle.ring_poly.specs.Polynomials.{AreResidues};
 
 use crate::Q;
 use no_memory::NoMemory;
 use std::alloc::Global;
+
+/// Whether every number is a residue, below q.
+#[tactic(auto, unfolding(spiral_sets::specs::Sets::q))]
+pub fn are_residues(c: &[u64]) -> bool
+    ensures { IsTrue result ↔ AreResidues c.now }
+{
+    c.iter().all(|x| *x < Q)
+}
 
 /// n zeros.
 pub(crate) fn zeros(alloc: Global, n: usize) -> Result<Vec<u64>, NoMemory>

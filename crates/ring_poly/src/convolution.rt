@@ -3,7 +3,7 @@ ghost use Rattle.negacyclic.specs.Sums.{total};
 ghost use Rattle.negacyclic.specs.Residues.{residue};
 ghost use Rattle.negacyclic.specs.Ring.{at, product_at, ring_add, ring_mul};
 ghost use Rattle.negacyclic.proofs.Turn.{product_term};
-ghost use Rattle.spiral_model.specs.Sets.{q};
+ghost use Rattle.spiral_sets.specs.Sets.{q};
 ghost use Rattle.ring_poly.specs.Polynomials.{AreResidues};
 
 use crate::Q;

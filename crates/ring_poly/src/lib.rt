@@ -9,9 +9,8 @@ mod ring;
 #[cfg(test)]
 mod tests;
 
+pub use coefficients::are_residues;
 pub use poly::Poly;
 pub use product::PolyT;
 pub use ring::Ring;
-
-/// The ring's modulus q = 268369921 * 249561089.
-pub const Q: u64 = 66974689739603969;
+pub use spiral_sets::Q;

@@ -1,7 +1,7 @@
-ghost use Rattle.std.specs.Prelude.{◌≡◌, length, replicate, IfOk};
+ghost use Rattle.std.specs.Prelude.{◌≡◌, ◌<◌, ◌==◌, if◌then◌else◌, pos, length, replicate, IfOk};
 ghost use Rattle.negacyclic.specs.Residues.{norm};
-ghost use Rattle.negacyclic.specs.Ring.{ring_add, ring_sub};
-ghost use Rattle.spiral_model.specs.Sets.{q};
+ghost use Rattle.negacyclic.specs.Ring.{reduced, ring_add, ring_sub};
+ghost use Rattle.spiral_sets.specs.Sets.{q};
 ghost use Rattle.ring_poly.specs.Polynomials.{IsDegree, AreResidues};
 
 use crate::coefficients;
@@ -57,18 +57,30 @@ impl Poly {
         })
     }
 
-    /// The coefficients, the constant one first.
-    pub fn coeffs(&self) -> &[u64]
-        ensures value { result.now ≡ self.now }
-        ensures residues { AreResidues result.now }
+    /// The polynomial with n coefficients whose constant one is z and whose others are 0.
+    pub fn constant(alloc: Global, n: usize, z: u64) -> Result<Poly, NoMemory>
+        requires degree { IsDegree n }
+        requires residue { z < q }
+        ensures { IfOk result (λ a. a ≡ reduced q n (λ k. if k == 0 then pos z else pos 0)) }
     {
-        &self.numbers
+        let mut numbers = coefficients::zeros(alloc, n)?;
+        numbers[0] = z;
+        Ok(Poly { numbers })
     }
 
-    /// Writes the coefficients. It takes no memory.
+    /// The degree N: how many coefficients there are. It also makes known that they are residues.
+    pub fn degree(&self) -> usize
+        ensures value { result ≡ length self.now }
+        ensures residues { AreResidues self.now }
+    {
+        self.numbers.len()
+    }
+
+    /// Writes the coefficients, the constant one first. It takes no memory.
     pub fn coeffs_into(&self, out: &mut [u64])
         requires { length out.old ≡ length self.now }
-        ensures { out.new ≡ self.now }
+        ensures value { out.new ≡ self.now }
+        ensures residues { AreResidues out.new }
     {
         out.copy_from_slice(&self.numbers);
     }

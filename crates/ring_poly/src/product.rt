@@ -1,6 +1,6 @@
 ghost use Rattle.std.specs.Prelude.{◌≡◌, length, replicate, IfOk};
 ghost use Rattle.negacyclic.specs.Ring.{ring_add};
-ghost use Rattle.spiral_model.specs.Sets.{q};
+ghost use Rattle.spiral_sets.specs.Sets.{q};
 ghost use Rattle.ring_poly.specs.Polynomials.{IsDegree};
 
 use crate::coefficients;

@@ -1,6 +1,6 @@
 ghost use Rattle.std.specs.Prelude.{◌≡◌, ◌*◌, ◌<◌, pos, length, IfOk};
 ghost use Rattle.negacyclic.specs.Ring.{ring_add, ring_mul, ring_scale, ring_shift};
-ghost use Rattle.spiral_model.specs.Sets.{q};
+ghost use Rattle.spiral_sets.specs.Sets.{q};
 ghost use Rattle.ring_poly.specs.Polynomials.{IsDegree};
 
 use crate::{Poly, PolyT, coefficients, convolution};
@@ -68,6 +68,7 @@ impl Ring {
         ensures value { sum.new ≡ ring_add q self.now sum.old (ring_mul q self.now a.now b.now) }
         ensures degree { length sum.new ≡ self.now }
     {
+        // reading the degree makes known that it is 256 or 2048
         let _ = &self.degree;
         convolution::multiply_add(&mut sum.numbers, &a.numbers, &b.numbers);
     }
@@ -79,6 +80,7 @@ impl Ring {
         ensures value { IfOk result (λ c. c ≡ ring_mul q self.now a.now b.now) }
         ensures degree { IfOk result (λ c. length c ≡ self.now) }
     {
+        // reading the degree makes known that it is 256 or 2048
         let _ = &self.degree;
         let mut product = a.copy()?;
         convolution::multiply(&a.numbers, &b.numbers, &mut product.numbers);
@@ -93,6 +95,7 @@ impl Ring {
         ensures value { out.new ≡ ring_shift q self.now e a.now }
         ensures degree { length out.new ≡ self.now }
     {
+        // reading the degree makes known that it is 256 or 2048
         let _ = &self.degree;
         coefficients::shift(&a.numbers, e, &mut out.numbers);
     }

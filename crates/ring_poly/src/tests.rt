@@ -1,5 +1,5 @@
 ghost use Rattle.std.specs.Prelude.{◌≡◌, length, IfOk, IsTrue};
-ghost use Rattle.ring_poly.specs.Polynomials.{IsDegree, AreResidues};
+ghost use Rattle.ring_poly.specs.Polynomials.{IsDegree};
 
 use super::*;
 use no_memory::NoMemory;
@@ -16,11 +16,16 @@ fn is_degree(n: usize) -> bool
     n == 256 || n == 2048
 }
 
-#[tactic(auto, unfolding(spiral_model::specs::Sets::q))]
-fn are_residues(numbers: &[u64]) -> bool
-    ensures { IsTrue result → AreResidues numbers.now }
+fn numbers_of(alloc: Global, a: &Poly) -> Result<Vec<u64>, NoMemory>
+    ensures { IfOk result (λ numbers. numbers.items ≡ a.now) }
 {
-    numbers.iter().all(|x| *x < Q)
+    let mut numbers = coefficients::zeros(alloc, a.degree())?;
+    a.coeffs_into(&mut numbers);
+    Ok(numbers)
+}
+
+fn are_same(alloc: Global, a: &Poly, b: &Poly) -> Result<bool, NoMemory> {
+    Ok(numbers_of(alloc, a)?.as_slice() == numbers_of(alloc, b)?.as_slice())
 }
 
 fn ring_of(rt: &impl Abort, alloc: Global, n: usize) -> Result<Ring, NoMemory>
@@ -112,14 +117,15 @@ fn products_by_hand(rt: HostRuntime) -> Result<(), Fail> {
         let a = polynomial(&rt, alloc, &ring, example.a)?;
         let b = polynomial(&rt, alloc, &ring, example.b)?;
         let want = polynomial(&rt, alloc, &ring, example.product)?;
-        assert!(rt; ring.mul(&a, &b)?.coeffs() == want.coeffs());
-        assert!(rt; ring.mul(&b, &a)?.coeffs() == want.coeffs());
+        assert!(rt; are_same(alloc, &ring.mul(&a, &b)?, &want)?);
+        assert!(rt; are_same(alloc, &ring.mul(&b, &a)?, &want)?);
     }
     Ok(())
 }
 
 // 5 + x^255 x = 4, twice: 8, and then 0
 #[test]
+#[tactic(auto, unfolding(spiral_sets::specs::Sets::q))]
 fn products_are_added(rt: HostRuntime) -> Result<(), Fail> {
     let alloc = rt.alloc();
     let ring = ring_of(&rt, alloc, 256)?;
@@ -135,7 +141,8 @@ fn products_are_added(rt: HostRuntime) -> Result<(), Fail> {
     sum.add_assign(&a);
     let mut back = Poly::zero(alloc, ring.degree())?;
     ring.from_product(&sum, &mut back);
-    assert!(rt; back.coeffs() == polynomial(&rt, alloc, &ring, &[(0, 8)])?.coeffs());
+    let want = Poly::constant(alloc, 256, 8)?;
+    assert!(rt; are_same(alloc, &back, &want)?);
     Ok(())
 }
 
@@ -159,9 +166,9 @@ fn sums_and_differences_by_hand(rt: HostRuntime) -> Result<(), Fail> {
     let difference = polynomial(&rt, alloc, &ring, &[(0, Q - 2), (1, 2), (255, Q - 1)])?;
     let mut c = a.copy()?;
     c.add_assign(&b);
-    assert!(rt; c.coeffs() == sum.coeffs());
+    assert!(rt; are_same(alloc, &c, &sum)?);
     a.sub_assign(&b);
-    assert!(rt; a.coeffs() == difference.coeffs());
+    assert!(rt; are_same(alloc, &a, &difference)?);
     Ok(())
 }
 
@@ -219,13 +226,13 @@ fn powers_of_x_by_hand(rt: HostRuntime) -> Result<(), Fail> {
         let mut out = polynomial(&rt, alloc, &ring, &[(1, 9)])?;
         assert!(rt; example.power < 2 * ring.degree());
         ring.shift(&a, example.power, &mut out);
-        assert!(rt; out.coeffs() == want.coeffs());
+        assert!(rt; are_same(alloc, &out, &want)?);
     }
     Ok(())
 }
 
 #[test]
-#[tactic(auto, unfolding(spiral_model::specs::Sets::q))]
+#[tactic(auto, unfolding(spiral_sets::specs::Sets::q))]
 fn multiples_and_norms_by_hand(rt: HostRuntime) -> Result<(), Fail> {
     let alloc = rt.alloc();
     let ring = ring_of(&rt, alloc, 256)?;
@@ -237,7 +244,7 @@ fn multiples_and_norms_by_hand(rt: HostRuntime) -> Result<(), Fail> {
     let mut out = Poly::zero(alloc, ring.degree())?;
     ring.scale(2, &a, &mut out);
     let want = polynomial(&rt, alloc, &ring, &[(0, Q - 2), (7, 6), (255, Q - 1)])?;
-    assert!(rt; out.coeffs() == want.coeffs());
+    assert!(rt; are_same(alloc, &out, &want)?);
     Ok(())
 }
 
@@ -247,14 +254,15 @@ fn coefficients_come_and_go(rt: HostRuntime) -> Result<(), Fail> {
     let ring = ring_of(&rt, alloc, 2048)?;
     let a = polynomial(&rt, alloc, &ring, &[(0, 4), (2047, Q - 1)])?;
     let mut b = Poly::zero(alloc, ring.degree())?;
-    b.put_coeffs(a.coeffs());
-    let mut numbers = coefficients::zeros(alloc, ring.degree())?;
-    assert!(rt; numbers.len() == b.coeffs().len());
-    b.coeffs_into(&mut numbers);
+    let written = numbers_of(alloc, &a)?;
+    assert!(rt; are_residues(&written));
+    b.put_coeffs(&written);
+    let numbers = numbers_of(alloc, &b)?;
     assert_eq!(rt; numbers.len(), 2048);
     assert_eq!(rt; numbers.get(0), Some(&4));
     assert_eq!(rt; numbers.get(2047), Some(&66974689739603968));
     b.clear();
-    assert_eq!(rt; b.norm1(), 0);
+    assert_eq!(rt; (b.degree(), b.norm1()), (2048, 0));
+    assert!(rt; !are_residues(&[0, Q]));
     Ok(())
 }

@@ -1,8 +1,3 @@
-pub mod EachSet
-pub mod SetBounds
-pub mod FrameLaws
 mod Examples
-pub mod HeaderReading
-pub mod Outcomes
-pub mod DatabaseFrames
-pub mod SpelledDatabases
+mod KeyExamples
+mod NoiseExamples

@@ -2,8 +2,9 @@
 use Rattle.std.specs.Prelude.{ℕ, List, ◌≡◌, ◌*◌, ◌/◌, ◌<◌, ◌≤◌, length, take, drop, map, All}
 use Rattle.std.specs.List.{range_with_len}
 use Rattle.negacyclic.specs.Ring.{reduced}
-use Rattle.spiral_model.specs.declared.param_set.ParamSet.{ParamSet}
-use Rattle.spiral_model.specs.Sets.{IsSet, q, entries, max_records, capacity}
+use Rattle.spiral_sets.specs.declared.param_set.ParamSet.{ParamSet}
+use Rattle.spiral_sets.specs.Sets.{IsSet, q, entries, max_records, capacity}
+use Rattle.spiral_model.specs.Words.{Poly, Matrix}
 use Rattle.spiral_model.specs.Records.{values_of, centred_at}
 
 -- Records of one length in bytes, one after the other.
@@ -34,13 +35,13 @@ abbrev pub values_at : RecordTable → ℕ → List ℕ
 values_at table i = values_of table.set (record_at table i)
 
 -- Entry e, row by row from 0, of the matrix of record i: its values, centred, as a polynomial.
-unfoldable pub matrix_entry : RecordTable → ℕ → ℕ → List ℕ
+unfoldable pub matrix_entry : RecordTable → ℕ → ℕ → Poly
 matrix_entry table i e = reduced q table.set.degree (λ k. centred_at table.set (values_at table i) e k)
 
 -- the matrix of record i
-unfoldable pub matrix_of : RecordTable → ℕ → List (List ℕ)
-matrix_of table i = map (λ e. matrix_entry table i e) (range_with_len 0 (entries table.set))
+unfoldable pub matrix_of : RecordTable → ℕ → Matrix
+matrix_of table i = map (matrix_entry table i) (range_with_len 0 (entries table.set))
 
 -- the matrices of all places of a database, those without a record too
-unfoldable pub matrices_of : RecordTable → List (List (List ℕ))
-matrices_of table = map (λ i. matrix_of table i) (range_with_len 0 (max_records table.set))
+unfoldable pub matrices_of : RecordTable → List Matrix
+matrices_of table = map (matrix_of table) (range_with_len 0 (max_records table.set))

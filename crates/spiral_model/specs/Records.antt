@@ -1,8 +1,8 @@
 -- A record's bytes as values below p, and the values as the entries of a matrix of polynomials.
 use Rattle.std.specs.Prelude.{ℕ, ℤ, List, ◌*◌, ◌/◌, take, drop, slice_index, nat_lt, if◌then◌else◌, pos, ◌-ℤ◌}
 use Rattle.negacyclic.specs.Digits.{repacked}
-use Rattle.spiral_model.specs.declared.param_set.ParamSet.{ParamSet}
-use Rattle.spiral_model.specs.Sets.{p, values_count}
+use Rattle.spiral_sets.specs.declared.param_set.ParamSet.{ParamSet}
+use Rattle.spiral_sets.specs.Sets.{p, values_count}
 
 -- A record's bytes are one string of bits, the least bit of each byte first, with zeros after it; its values are
 -- that string cut into values of p_bits bits, the least bit of each first.

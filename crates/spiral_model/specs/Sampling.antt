@@ -3,7 +3,7 @@ use Rattle.std.specs.Prelude.{ℕ, ℤ, List, ◌+◌, ◌*◌, ◌/◌, ◌%◌
 use Rattle.std.specs.List.{range_with_len}
 use Rattle.rand_chacha.specs.ChaCha.{word_at, key_of}
 use Rattle.negacyclic.specs.Ring.{reduced}
-use Rattle.spiral_model.specs.Sets.{q}
+use Rattle.spiral_sets.specs.Sets.{q}
 
 -- A residue, nearly uniform: the 128-bit number of two words, the first one high, modulo q.
 abbrev pub uniform_number : ℕ → ℕ → ℕ

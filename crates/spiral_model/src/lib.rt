@@ -1,17 +1,8 @@
-//! The words of the scheme: its parameter sets and their counts, and, in `specs/`, the definitions that every
-//! contract of the crates above cites.
+//! The words of the scheme: in `specs/` the definitions that every contract of the crates above cites. The parameter sets, the headers
+//! of frames and the laws of the ring, which stand in crates below, are named here too.
 #![tactic(auto)]
 
-mod frame_error;
-mod header;
-mod param_set;
-mod sets;
-
-pub use frame_error::FrameError;
-pub use header::{HeaderRead, read_header};
+pub use frame_headers::{FrameError, HeaderRead, read_header};
+pub use negacyclic as laws;
 pub use no_memory::NoMemory;
-pub use param_set::ParamSet;
-pub use sets::{set_at, set_named};
-
-#[cfg(test)]
-mod tests;
+pub use spiral_sets::{ParamSet, set_at, set_named};

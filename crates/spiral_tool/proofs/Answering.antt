@@ -3,14 +3,15 @@ use Rattle.std.proofs.Common.{ℕ, List, length, IsTrue, ◌≡◌, ◌≢◌, �
 use Rattle.pir_io.specs.Files.{FilesSeen, KeepsOthers, content_of}
 use Rattle.pir_io.specs.Reading.{OnlyRead, FailedReading, FailedWriting, HoldsPrefix}
 use Rattle.pir_io.specs.Sink.{SinkSeen}
-use Rattle.spiral_model.specs.declared.param_set.ParamSet.{ParamSet}
+use Rattle.spiral_sets.specs.declared.param_set.ParamSet.{ParamSet}
 use Rattle.spiral_model.specs.Sets.{name_of}
-use Rattle.spiral_model.specs.Switched.{SwitchedReply}
-use Rattle.spiral_model.specs.Queries.{CipherBody}
+use Rattle.spiral_model.specs.Replies.{SwitchedReply}
+use Rattle.spiral_model.specs.Bodies.{CipherBody}
 use Rattle.spiral_model.specs.Databases.{RecordTable}
-use Rattle.spiral_model.specs.Answering.{answer_of}
-use Rattle.spiral_model.specs.Frames.{IsOne, Spell, frame_of, query_message, reply_message, database_message}
-use Rattle.spiral_model.specs.Checks.{database_refusal}
+use Rattle.spiral_model.specs.Answering.{answer_of, reply_of}
+use Rattle.frame_headers.specs.declared.kind.FrameKind.TheVariants.{Query, Database}
+use Rattle.spiral_frames.specs.Frames.{IsOne, Spell, frame_of, query_message, reply_message, database_message}
+use Rattle.spiral_frames.specs.FrameChecks.{database_refusal}
 use Rattle.record_store.specs.declared.storing.DbError.{DbError}
 use Rattle.record_store.specs.declared.storing.DbError.TheVariants as db
 use Rattle.record_store.specs.Storing.{ReadsDatabase}
@@ -24,10 +25,10 @@ use Rattle.spiral_tool.specs.Inputs.{DatabaseIn, QueryIn, NoQueryIn, IsEmpty}
 use Rattle.spiral_tool.specs.Reading.{ReadsMessage}
 use Rattle.spiral_tool.specs.Record.{InputRefused, DatabaseRefused, FileEnds, EndsWithFile}
 use Rattle.spiral_tool.specs.Words.{AnswerWords}
-use Rattle.spiral_tool.specs.Answer.{InputsIn, reply_frame, HasNoQuery, HasBadInput, HasOtherSet, FailedAnswering, HoldsSomeOfReply, RefusedInput, AnswerEnds, AnswersFor}
-use Rattle.spiral_model.proofs.FrameLaws.{same_set_of_frames}
-use Rattle.spiral_model.proofs.SpelledDatabases.{spelled_not_refused}
-use Rattle.spiral_tool.proofs.Kept.{same_content, still_told, then_only, rose_before}
+use Rattle.spiral_tool.specs.Answer.{InputsIn, answered, reply_frame, HasNoQuery, HasBadInput, HasOtherSet, FailedAnswering, HoldsSomeOfReply, RefusedInput, AnswerEnds, AnswersFor}
+use Rattle.spiral_frames.proofs.FrameLaws.{same_set_of_frames}
+use Rattle.spiral_frames.proofs.SpelledDatabases.{spelled_not_refused}
+use Rattle.pir_io.proofs.Kept.{same_content, still_told, then_only, rose_before}
 
 -- what is expected and what is bad exclude each other, whichever messages the inputs are said to be
 module _ (old : FilesSeen) (a : AnswerWords) where
@@ -40,9 +41,9 @@ module _ (old : FilesSeen) (a : AnswerWords) where
 
   one_set : (t u : RecordTable) (q r : CipherBody) → InputsIn old a t q → InputsIn old a u r → t.set ≡ q.set → u.set ≡ r.set
   one_set t u q r one other same =
-      same_set_of_frames 6 (content_of old a.db_name) (database_message u) (database_message t) other.table_in one.table_in
+      same_set_of_frames Database (content_of old a.db_name) (database_message u) (database_message t) other.table_in one.table_in
       ∙ same
-      ∙ same_set_of_frames 2 (content_of old a.query_name) (query_message q) (query_message r) one.query_in other.query_in
+      ∙ same_set_of_frames Query (content_of old a.query_name) (query_message q) (query_message r) one.query_in other.query_in
 
   not_other : (table : RecordTable) (query : CipherBody) → InputsIn old a table query → table.set ≡ query.set → HasOtherSet old a → ⊥
   not_other table query are same other = other.3 (one_set table other.0 query other.1 are other.2 same)
@@ -138,10 +139,10 @@ module _ (old mid : FilesSeen) (first : OnlyRead old mid) where
   empty_now name told empty = same_content old mid (first.keeps told) name ∙ empty
 
   query_before : (name : List ℕ) (query : CipherBody) → IsTrue old.tells → QueryIn mid name query → QueryIn old name query
-  query_before name query told one = subst (λ x. IsOne 2 x (query_message query)) (same_content old mid (first.keeps told) name) one
+  query_before name query told one = subst (λ x. IsOne Query x (query_message query)) (same_content old mid (first.keeps told) name) one
 
   query_now : (name : List ℕ) (query : CipherBody) → IsTrue old.tells → QueryIn old name query → QueryIn mid name query
-  query_now name query told one = subst (λ x. IsOne 2 x (query_message query)) (sym (same_content old mid (first.keeps told) name)) one
+  query_now name query told one = subst (λ x. IsOne Query x (query_message query)) (sym (same_content old mid (first.keeps told) name)) one
 
 -- DB was read, and SETUP was not read as empty
 module _ (old mid new : FilesSeen) (so sn : SinkSeen) (a : AnswerWords) (table : RecordTable) (reads_db : ReadsDatabase old mid a.db_name (Ok table)) where
@@ -244,12 +245,12 @@ module _ (old mid new : FilesSeen) (so sn : SinkSeen) (a : AnswerWords) (table :
       answers_for old new so sn a status (reply_ends status ends) (λ told other differs. w.others (told_mid told) other differs ∙ only.keeps told other)
 
 -- the answer to a query is of the database's set
-pub answer_set : (table : RecordTable) (query : CipherBody) → (answer_of table query).set ≡ table.set
-unfolding answer_of
+pub answer_set : (table : RecordTable) (query : CipherBody) → (answered table query).set ≡ table.set
+unfolding answer_of reply_of
 answer_set table query = refl
 
 -- the frame that spells a reply is that of the answer which the reply is
 pub reply_spelled : {T E : Type 0} (items : T → List ℕ) (result : Result T E) (reply : SwitchedReply) (table : RecordTable) (query : CipherBody)
-    → reply ≡ answer_of table query → IfOk result (λ x. Spell (reply_message reply) (items x)) → IfOk result (λ x. items x ≡ reply_frame table query)
+    → reply ≡ answered table query → IfOk result (λ x. Spell (reply_message reply) (items x)) → IfOk result (λ x. items x ≡ reply_frame table query)
 reply_spelled items (Ok x) reply table query is spells = spells.spelled ∙ ap (λ (r : SwitchedReply). frame_of (reply_message r)) is
 reply_spelled items (Err e) reply table query is spells = tt

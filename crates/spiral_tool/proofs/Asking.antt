@@ -2,12 +2,12 @@
 use Rattle.std.proofs.Common.{ℕ, List, [], length, IsTrue, ◌≡◌, ◌≢◌, ◌<◌, ◌≤◌, ◌↔◌, Ok, inl, inr, Some, ap, sym, ◌∙◌, subst, refl, arith}
 use Rattle.pir_io.specs.Files.{FilesSeen, Keeps, content_of}
 use Rattle.pir_io.specs.Sink.{SinkSeen}
-use Rattle.spiral_model.specs.declared.param_set.ParamSet.{ParamSet}
+use Rattle.spiral_sets.specs.declared.param_set.ParamSet.{ParamSet}
 use Rattle.spiral_model.specs.Sets.{max_records}
 use Rattle.spiral_model.specs.Counts.{words_needed}
-use Rattle.spiral_model.specs.Switched.{QueryState}
-use Rattle.spiral_model.specs.Queries.{state_of}
-use Rattle.spiral_model.specs.Frames.{frame_of, state_message}
+use Rattle.spiral_model.specs.Replies.{QueryState}
+use Rattle.spiral_model.specs.Dealing.{state_of}
+use Rattle.spiral_frames.specs.Frames.{frame_of, state_message}
 use Rattle.pir_client.specs.declared.asking.Asked.{Asked}
 use Rattle.pir_client.specs.Asks.{IsAsked}
 use Rattle.spiral_tool.specs.declared.status.Status.{Status}
@@ -19,7 +19,7 @@ use Rattle.spiral_tool.specs.Sources.{source_name, words_given, ReadsWords}
 use Rattle.spiral_tool.specs.Words.{AskWords}
 use Rattle.spiral_tool.specs.Outputs.{WroteAll, StoppedIn, FailedIn, OutputsEnd}
 use Rattle.spiral_tool.specs.Ask.{Names, NamesNone, IsPastRange, InRange, words_for, IsEnough, IsShort, query_frame, outputs_of, asked_outputs, HasWritten, line_for, HasStopped, AskEnds, AsksFor}
-use Rattle.spiral_tool.proofs.Kept.{still_told, rose_before}
+use Rattle.pir_io.proofs.Kept.{still_told, rose_before}
 use Rattle.spiral_tool.proofs.WritingAll.{three_same, wrote_all_after, stopped_in_after, failed_in_after}
 
 -- a name is that of one set

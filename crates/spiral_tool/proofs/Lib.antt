@@ -1,7 +1,6 @@
-pub mod Kept
 pub mod Headers
-pub mod Bodies
-pub mod Polys
+pub mod States
+pub mod Replies
 pub mod Pieces
 pub mod Queries
 pub mod Reading

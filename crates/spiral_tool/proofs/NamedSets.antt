@@ -3,8 +3,8 @@ use Rattle.std.proofs.Common.{ℕ, List, [], ◌∷◌, ◌≡◌, Some, nat_eq,
 use Rattle.std.specs.Prelude.{if◌then◌else◌}
 use Rattle.std.specs.List.{AllByRecursion}
 use lib.Pointwise.{pointwise}
-use Rattle.spiral_model.specs.declared.param_set.ParamSet.{ParamSet}
-use Rattle.spiral_model.specs.declared.sets.TheConstants.{SETS}
+use Rattle.spiral_sets.specs.declared.param_set.ParamSet.{ParamSet}
+use Rattle.spiral_sets.specs.declared.sets.TheConstants.{SETS}
 use Rattle.spiral_model.specs.Sets.{IsSet, names, named_among, set_of}
 
 -- what holds of each row holds of the one that a name is found at

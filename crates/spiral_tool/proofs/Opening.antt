@@ -2,11 +2,12 @@
 use Rattle.std.proofs.Common.{ℕ, List, IsTrue, ◌≡◌, ◌≢◌, ◌<◌, ◌≤◌, ◌↔◌, inl, inr, Err, ap, sym, ◌∙◌, subst, refl, arith}
 use Rattle.pir_io.specs.Files.{FilesSeen, Keeps, KeepsOthers, content_of}
 use Rattle.pir_io.specs.Sink.{SinkSeen}
-use Rattle.spiral_model.specs.declared.param_set.ParamSet.{ParamSet}
+use Rattle.spiral_sets.specs.declared.param_set.ParamSet.{ParamSet}
 use Rattle.spiral_model.specs.Sets.{name_of}
-use Rattle.spiral_model.specs.Counts.{state_len, reply_len}
-use Rattle.spiral_model.specs.Switched.{QueryState, SwitchedReply, open_bytes}
-use Rattle.spiral_model.specs.Frames.{Message, IsOne, state_body, reply_body, state_message, reply_message}
+use Rattle.spiral_model.specs.Replies.{QueryState, SwitchedReply, open_bytes}
+use Rattle.frame_headers.specs.declared.kind.FrameKind.{FrameKind}
+use Rattle.frame_headers.specs.declared.kind.FrameKind.TheVariants.{State, Reply}
+use Rattle.spiral_frames.specs.Frames.{Message, IsOne, state_message, reply_message}
 use Rattle.spiral_tool.specs.declared.status.Status.{Status}
 use Rattle.spiral_tool.specs.declared.status.Status.TheVariants.{Done, NoMemory, Usage, UnknownSet, IndexRange, WordsShort, FileFault, BadFrame, WrongSet, Absent, BadRecords, SinkFault}
 use Rattle.spiral_tool.specs.declared.input.InputError.{InputError}
@@ -18,8 +19,8 @@ use Rattle.pir_io.specs.Reading.{FailedReading, FailedWriting, OnlyRead, HoldsPr
 use Rattle.spiral_tool.specs.Reading.{ReadsMessage}
 use Rattle.spiral_tool.specs.Record.{InputRefused, FileEnds, EndsWithFile}
 use Rattle.spiral_tool.specs.Open.{Opens, OpenEnds, BothIn, IsPresent, HasBadFrame, HasWrongSet, IsAbsent, FailedInOrder, HoldsSomeOfRecord}
-use Rattle.spiral_model.proofs.FrameLaws.{same_front, frame_of_state, frame_of_reply, state_index_is, reply_count_is}
-use Rattle.spiral_tool.proofs.Kept.{same_content, still_told, then_only, rose_before}
+use Rattle.spiral_frames.proofs.FrameLaws.{same_set_of_frames, state_index_is, reply_count_is}
+use Rattle.pir_io.proofs.Kept.{same_content, still_told, then_only, rose_before}
 
 not_bad : (old : FilesSeen) (S R : List ℕ) (s : QueryState) (r : SwitchedReply) → BothIn old S R s r → HasBadFrame old S R → ⊥
 not_bad old S R s r both (inl none) = none s both.state_in
@@ -33,21 +34,11 @@ not_absent old S R s r both present absent =
     let lt : s.index < r.count = present.1 in
     omega arith
 
--- bytes spell one set
-state_set_is : (x : List ℕ) (s t : QueryState) → IsOne 5 x (state_message s) → IsOne 5 x (state_message t) → s.set ≡ t.set
-state_set_is x s t hs ht =
-    let bodies = same_front 5 state_len s.set t.set (state_body s) (state_body t) hs.spells.fits.1.known ht.spells.fits.1.known (sym (frame_of_state x s hs) ∙ frame_of_state x t ht) in
-    bodies.0
-
-reply_set_is : (x : List ℕ) (r u : SwitchedReply) → IsOne 3 x (reply_message r) → IsOne 3 x (reply_message u) → r.set ≡ u.set
-reply_set_is x r u hr hu =
-    let bodies = same_front 3 reply_len r.set u.set (reply_body r) (reply_body u) hr.spells.fits.1.known hu.spells.fits.1.known (sym (frame_of_reply x r hr) ∙ frame_of_reply x u hu) in
-    bodies.0
-
 -- what the inputs spell is of one set or of two, whichever messages they are said to be
 one_set : (old : FilesSeen) (S R : List ℕ) (s t : QueryState) (r u : SwitchedReply) → BothIn old S R s r → BothIn old S R t u → s.set ≡ r.set → t.set ≡ u.set
 one_set old S R s t r u one other same =
-    sym (state_set_is (content_of old S) s t one.state_in other.state_in) ∙ same ∙ reply_set_is (content_of old R) r u one.reply_in other.reply_in
+    sym (same_set_of_frames State (content_of old S) (state_message s) (state_message t) one.state_in other.state_in) ∙ same
+    ∙ same_set_of_frames Reply (content_of old R) (reply_message r) (reply_message u) one.reply_in other.reply_in
 
 not_wrong : (old : FilesSeen) (S R : List ℕ) (s : QueryState) (r : SwitchedReply) → BothIn old S R s r → s.set ≡ r.set → HasWrongSet old S R → ⊥
 not_wrong old S R s r both same wrong = wrong.3 (one_set old S R s wrong.0 r wrong.1 both wrong.2 same)
@@ -113,10 +104,10 @@ on_status : (P : Status → Type 0) (x status : Status) → status ≡ x → P x
 on_status P x status e h = subst P (sym e) h
 
 -- the content of a name before, in place of that now
-of_before : (old new : FilesSeen) (kind : ℕ) (name : List ℕ) (m : Message) → Keeps old new → IsOne kind (content_of new name) m → IsOne kind (content_of old name) m
+of_before : (old new : FilesSeen) (kind : FrameKind) (name : List ℕ) (m : Message) → Keeps old new → IsOne kind (content_of new name) m → IsOne kind (content_of old name) m
 of_before old new kind name m keeps one = subst (λ x. IsOne kind x m) (same_content old new keeps name) one
 
-of_now : (old new : FilesSeen) (kind : ℕ) (name : List ℕ) (m : Message) → Keeps old new → IsOne kind (content_of old name) m → IsOne kind (content_of new name) m
+of_now : (old new : FilesSeen) (kind : FrameKind) (name : List ℕ) (m : Message) → Keeps old new → IsOne kind (content_of old name) m → IsOne kind (content_of new name) m
 of_now old new kind name m keeps one = subst (λ x. IsOne kind x m) (sym (same_content old new keeps name)) one
 
 module _ (old new : FilesSeen) (so sn : SinkSeen) (S R O : List ℕ) (only : OnlyRead old new) where
@@ -155,7 +146,7 @@ module _ (old mid new : FilesSeen) (so sn : SinkSeen) (S R O : List ℕ) (s : Qu
   }
 
   no_reply_before : IsTrue old.tells → NoReplyIn mid R → NoReplyIn old R
-  no_reply_before told none r one = none r (of_now old mid 3 R (reply_message r) (first.keeps told) one)
+  no_reply_before told none r one = none r (of_now old mid Reply R (reply_message r) (first.keeps told) one)
 
   reply_ends : {T : Type 0} (Found : T → Type 0) (error : InputError) (status : Status) → ReadsMessage Found (NoReplyIn mid R) mid new R (Err error) → InputRefused so sn error status → OpenEnds old new so sn S R O status
   reply_ends Found input.File status reads refused = unread old new so sn S R O (then_only old mid new first reads.only) status (inr (inl (λ told. (s, state_in told), failed_then (reads.file refl)))) refused
@@ -228,5 +219,5 @@ module _ (old mid new : FilesSeen) (so sn : SinkSeen) (S R O : List ℕ) (s : Qu
 pub both_in : (old mid : FilesSeen) (S R : List ℕ) (s : QueryState) (r : SwitchedReply) → OnlyRead old mid → (IsTrue old.tells → StateIn old S s) → (IsTrue mid.tells → ReplyIn mid R r) → IsTrue old.tells → BothIn old S R s r
 both_in old mid S R s r only state_in reply_in told = record {
   state_in = state_in told;
-  reply_in = of_before old mid 3 R (reply_message r) (only.keeps told) (reply_in (still_told old mid only.tells told));
+  reply_in = of_before old mid Reply R (reply_message r) (only.keeps told) (reply_in (still_told old mid only.tells told));
 }

@@ -1,11 +1,27 @@
 -- Things that bytes spell one after the other, each in a piece of the same length.
-use Rattle.std.proofs.Common.{◌≡◌, ℕ, zero, suc, ◌+◌, ◌*◌, ◌<◌, List, [], ◌∷◌, ◌++◌, length, take, drop, All, refl, sym, ◌∙◌, ap, arith, length-append}
+use Rattle.std.proofs.Common.{◌≡◌, ℕ, zero, suc, ◌+◌, ◌-◌, ◌*◌, ◌<◌, ◌≤◌, List, [], ◌∷◌, ◌++◌, length, take, drop, All, refl, sym, ◌∙◌, ap, arith, length-append}
 use Rattle.std.specs.List.{flat_map}
-use Rattle.std.proofs.lemmas.List.{append-nil, take_at, drop_at, drop-drop, take_all}
+use Rattle.std.proofs.lemmas.List.{append-nil, take_at, drop_at, drop-drop, take_all, length-take, length-drop}
 use Rattle.std.proofs.lemmas.List.Elements.{All-nil, All-head, All-tail, All-push}
 use Rattle.std.proofs.lemmas.Grind.{flat_map-append}
 use Rattle.std.proofs.Math.Seq.{take-add}
+use Rattle.std.proofs.Math.Nat.{mul-le-mul_right}
 use Rattle.spiral_tool.specs.Pieces.{AreSpelled}
+
+-- ---- one piece of `count` pieces of the same length
+
+module _ (bytes : List ℕ) (k len count : ℕ) (within : k < count) (room : length bytes ≡ count * len) where
+  -- as the program cuts it out
+  pub piece_is : take (k * len + len - k * len) (drop (k * len) bytes) ≡ take len (drop (k * len) bytes)
+  piece_is = ap (λ (n : ℕ). take n (drop (k * len) bytes)) (omega arith)
+
+  pub length-piece_of : length (take len (drop (k * len) bytes)) ≡ len
+  length-piece_of =
+      let most : (k + 1) * len ≤ count * len = mul-le-mul_right len (omega arith) in
+      let longer : (k + 1) * len ≡ k * len + len = omega arith in
+      omega (arith, length-take len (drop (k * len) bytes), length-drop (k * len) bytes)
+
+-- ---- things, each in a piece
 
 module _ {A : Type 0} (Fits : A → Type 0) (spell : A → List ℕ) (len : ℕ) where
   -- ---- from the bytes to the things

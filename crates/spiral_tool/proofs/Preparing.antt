@@ -5,10 +5,10 @@ use Rattle.std.proofs.Math.Nat.{mul-le-mul_right, mul-mod_left}
 use Rattle.pir_io.specs.Files.{FilesSeen, Keeps, KeepsOthers, content_of}
 use Rattle.pir_io.specs.Reading.{OnlyRead, FailedReading, FailedWriting, HoldsPrefix, WritesFile}
 use Rattle.pir_io.specs.Sink.{SinkSeen}
-use Rattle.spiral_model.specs.declared.param_set.ParamSet.{ParamSet}
+use Rattle.spiral_sets.specs.declared.param_set.ParamSet.{ParamSet}
 use Rattle.spiral_model.specs.Sets.{max_records, capacity}
 use Rattle.spiral_model.specs.Databases.{RecordTable, IsTable, record_count}
-use Rattle.spiral_model.specs.Frames.{frame_of, database_message}
+use Rattle.spiral_frames.specs.Frames.{frame_of, database_message}
 use Rattle.record_store.specs.declared.preparing.PrepareError.{PrepareError}
 use Rattle.record_store.specs.declared.preparing.PrepareError.TheVariants.{RecordLength, TooMany, Ragged}
 use Rattle.record_store.specs.Preparing.{ChecksLength, Prepares}
@@ -22,7 +22,7 @@ use Rattle.spiral_tool.specs.Record.{FileEnds, EndsWithFile}
 use Rattle.spiral_tool.specs.Words.{PrepareWords}
 use Rattle.spiral_tool.specs.Ask.{Names, NamesNone}
 use Rattle.spiral_tool.specs.Prepare.{reason_line, MayHold, IsNoLength, input_size, IsTooMany, IsRagged, HasBadRecords, table_of, HasPrepared, HasBegun, PrepareEnds, PreparesFor}
-use Rattle.spiral_tool.proofs.Kept.{still_told, rose_before}
+use Rattle.pir_io.proofs.Kept.{still_told, rose_before}
 use Rattle.spiral_tool.proofs.Writing.{file_written}
 use Rattle.spiral_tool.proofs.Asking.{one_set}
 

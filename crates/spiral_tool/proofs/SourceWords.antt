@@ -1,10 +1,8 @@
 -- The words that a source gives, from the front of its file.
-use Rattle.std.proofs.lemmas.Bool.{cases_lt}
-use Rattle.std.proofs.Common.{ℕ, List, [], ◌∷◌, ◌++◌, ◌+◌, ◌-◌, ◌*◌, ◌/◌, ◌^◌, ◌<◌, ◌≤◌, ◌≡◌, nat_le, if◌then◌else◌, Ok, min, length, take, drop, map, arith, ap, sym, ◌∙◌, length-take, ⊎_elim}
+use Rattle.std.proofs.lemmas.Bool.{cases_lt, le-leb, lt-leb}
+use Rattle.std.proofs.Common.{ℕ, List, [], ◌-◌, ◌*◌, ◌/◌, ◌^◌, ◌<◌, ◌≤◌, ◌≡◌, nat_le, if◌then◌else◌, Ok, min, length, take, drop, map, arith, ap, sym, ◌∙◌, length-take, ⊎_elim}
 use Rattle.std.specs.List.{range_with_len}
-use Rattle.std.proofs.lemmas.Bool.{le-leb, lt-leb}
 use Rattle.std.proofs.lemmas.List.{take_all, take-take}
-use Rattle.std.proofs.lemmas.List.FromFn.{map-range_with_len_more}
 use Rattle.negacyclic.specs.Digits.{number_of}
 use Rattle.pir_io.specs.Files.{FilesSeen, content_of}
 use Rattle.spiral_model.specs.Sampling.{seeded_words}
@@ -14,14 +12,6 @@ use Rattle.spiral_tool.specs.Sources.{WordSource, words_in, seed_in, source_name
 -- the word of the bytes from 8k on
 abbrev pub word_from : List ℕ → ℕ → ℕ
 word_from bytes k = number_of 256 (take 8 (drop (8 * k) bytes))
-
--- one more word
-pub word_more : (bytes items more : List ℕ) (k x : ℕ) → items ≡ map (word_from bytes) (range_with_len 0 k) → more ≡ items ++ x ∷ []
-    → x ≡ number_of 256 (take (8 * k + 8 - 8 * k) (drop (8 * k) bytes)) → more ≡ map (word_from bytes) (range_with_len 0 (k + 1))
-word_more bytes items more k x before push is =
-    let eight : 8 * k + 8 - 8 * k ≡ 8 = omega arith in
-    let word : x ≡ word_from bytes k = is ∙ ap (λ n. number_of 256 (take n (drop (8 * k) bytes))) eight in
-    push ∙ (λ i. before i ++ word i ∷ []) ∙ sym (map-range_with_len_more (word_from bytes) 0 k k (omega arith))
 
 -- all words
 pub words_all : (bytes items : List ℕ) (k : ℕ) → k ≡ length bytes / 8 → items ≡ map (word_from bytes) (range_with_len 0 k) → items ≡ words_written bytes

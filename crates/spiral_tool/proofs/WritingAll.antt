@@ -14,7 +14,7 @@ use Rattle.spiral_tool.specs.Texts.{file_fault_line}
 use Rattle.spiral_tool.specs.Puts.{Finishes, Refused}
 use Rattle.pir_io.specs.Reading.{WritesFile}
 use Rattle.spiral_tool.specs.Outputs.{Output, output_seen, outputs_seen, Wrote, WroteAll, StoppedAt, StoppedIn, LastFailedWrote, FailedIn, WritesOutputs, OutputsEnd}
-use Rattle.spiral_tool.proofs.Kept.{still_told, rose_before}
+use Rattle.pir_io.proofs.Kept.{still_told, rose_before}
 
 -- the first outputs were written
 pub record WroteFirst (old now : FilesSeen) (outputs : List Output) : Type 0 where

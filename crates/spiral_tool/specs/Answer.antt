@@ -1,19 +1,20 @@
 -- What the command `answer DB SETUP QUERY REPLY WORKERS` does, by the status that it ends with. The contents of the inputs
 -- are those at entry; what is said of contents holds of files that tell them. Nothing here speaks of WORKERS: what is
 -- written is the same for each number of them.
-use Rattle.std.specs.Prelude.{ℕ, List, IsTrue, ◌≡◌, ◌≢◌, ◌⊎◌, ◌↔◌, length, take, Some}
+use Rattle.std.specs.Prelude.{ℕ, List, IsTrue, ◌≡◌, ◌≢◌, ◌⊎◌, ◌↔◌, length, take, Some, None}
 use Rattle.pir_io.specs.Faults.{Rose}
 use Rattle.pir_io.specs.Files.{FilesSeen, Keeps, KeepsOthers, content_of}
 use Rattle.pir_io.specs.Reading.{FailedReading, FailedWriting}
 use Rattle.pir_io.specs.Sink.{SinkSeen}
-use Rattle.spiral_model.specs.declared.frame_error.FrameError.{FrameError}
-use Rattle.spiral_model.specs.Refusals.{code_of, place_of}
+use Rattle.frame_headers.specs.declared.frame_error.FrameError.{FrameError}
+use Rattle.spiral_frames.specs.Refusals.{code_of, place_of}
 use Rattle.spiral_model.specs.Sets.{name_of}
-use Rattle.spiral_model.specs.Queries.{CipherBody}
+use Rattle.spiral_model.specs.Bodies.{CipherBody}
 use Rattle.spiral_model.specs.Databases.{RecordTable}
-use Rattle.spiral_model.specs.Answering.{answer_of}
-use Rattle.spiral_model.specs.Frames.{frame_of, reply_message}
-use Rattle.spiral_model.specs.Checks.{database_refusal}
+use Rattle.spiral_model.specs.Answering.{ready_of, answer_of}
+use Rattle.spiral_model.specs.Replies.{SwitchedReply}
+use Rattle.spiral_frames.specs.Frames.{frame_of, reply_message}
+use Rattle.spiral_frames.specs.FrameChecks.{database_refusal}
 use Rattle.spiral_tool.specs.declared.status.Status.{Status}
 use Rattle.spiral_tool.specs.declared.status.Status.TheVariants.{Done, NoMemory, Usage, UnknownSet, IndexRange, WordsShort, FileFault, BadFrame, WrongSet, Absent, BadRecords, SinkFault}
 use Rattle.spiral_tool.specs.Texts.{reply_line, bad_frame_line, wrong_set_line, file_fault_line}
@@ -31,9 +32,13 @@ pub record InputsIn (files : FilesSeen) (answer : AnswerWords) (table : RecordTa
 abbrev pub SomeInputs : FilesSeen → AnswerWords → (RecordTable → CipherBody → Type 0) → Type 0
 SomeInputs files answer P = (table : RecordTable) × (query : CipherBody) × InputsIn files answer table query × P table query
 
--- the frame of the answer to a query, and the line that tells how long it is
+-- the answer to a query, which comes without keys
+abbrev pub answered : RecordTable → CipherBody → SwitchedReply
+answered table query = answer_of table None (ready_of table.set None query.ciphers)
+
+-- its frame, and the line that tells how long it is
 abbrev pub reply_frame : RecordTable → CipherBody → List ℕ
-reply_frame table query = frame_of (reply_message (answer_of table query))
+reply_frame table query = frame_of (reply_message (answered table query))
 
 abbrev pub line_of : RecordTable → CipherBody → List ℕ
 line_of table query = reply_line (name_of table.set) (length (reply_frame table query))

@@ -4,11 +4,11 @@ use Rattle.std.specs.Prelude.{ℕ, List, [], ◌∷◌, IsTrue, ◌≡◌, ◌�
 use Rattle.pir_io.specs.Faults.{Rose}
 use Rattle.pir_io.specs.Files.{FilesSeen, Keeps, content_of}
 use Rattle.pir_io.specs.Sink.{SinkSeen}
-use Rattle.spiral_model.specs.declared.param_set.ParamSet.{ParamSet}
+use Rattle.spiral_sets.specs.declared.param_set.ParamSet.{ParamSet}
 use Rattle.spiral_model.specs.Sets.{IsBuilt, set_of, max_records}
 use Rattle.spiral_model.specs.Counts.{words_needed}
-use Rattle.spiral_model.specs.Queries.{state_of, query_body_of}
-use Rattle.spiral_model.specs.Frames.{frame_of, state_message, query_message}
+use Rattle.spiral_model.specs.Dealing.{state_of, query_body_of}
+use Rattle.spiral_frames.specs.Frames.{frame_of, state_message, query_message}
 use Rattle.pir_client.specs.declared.asking.Asked.{Asked}
 use Rattle.spiral_tool.specs.declared.status.Status.{Status}
 use Rattle.spiral_tool.specs.declared.status.Status.TheVariants.{Done, NoMemory, Usage, UnknownSet, IndexRange, WordsShort, FileFault, BadFrame, WrongSet, Absent, BadRecords, SinkFault}

@@ -1,9 +1,9 @@
 -- The bodies of the frames that the program reads.
 use Rattle.std.specs.Prelude.{ℕ, List, ◌≡◌}
-use Rattle.spiral_model.specs.declared.param_set.ParamSet.{ParamSet}
-use Rattle.spiral_model.specs.Switched.{QueryState, IsState, SwitchedReply, IsReply}
-use Rattle.spiral_model.specs.Queries.{CipherBody, IsQuery}
-use Rattle.spiral_model.specs.Frames.{state_body, reply_body, cipher_bytes}
+use Rattle.spiral_sets.specs.declared.param_set.ParamSet.{ParamSet}
+use Rattle.spiral_model.specs.Replies.{QueryState, IsState, SwitchedReply, IsReply}
+use Rattle.spiral_model.specs.Bodies.{CipherBody, IsQuery}
+use Rattle.spiral_frames.specs.Frames.{state_body, reply_body, cipher_bytes}
 
 -- the bytes are the body of the frame of this state, of that set
 pub record IsStateBody (set : ParamSet) (bytes : List ℕ) (state : QueryState) : Type 0 where

@@ -5,7 +5,6 @@ pub mod Puts
 pub mod Inputs
 pub mod Headers
 pub mod Bodies
-pub mod Polys
 pub mod Pieces
 pub mod Reading
 pub mod Outputs

@@ -4,7 +4,7 @@ use Rattle.std.specs.Prelude.{ℕ, List, IsTrue, ◌≡◌, ◌≢◌, ◌<◌, 
 use Rattle.pir_io.specs.Faults.{Rose}
 use Rattle.pir_io.specs.Files.{FilesSeen, Keeps, KeepsOthers}
 use Rattle.pir_io.specs.Sink.{SinkSeen}
-use Rattle.spiral_model.specs.Switched.{QueryState, SwitchedReply, open_bytes}
+use Rattle.spiral_model.specs.Replies.{QueryState, SwitchedReply, open_bytes}
 use Rattle.spiral_tool.specs.declared.status.Status.{Status}
 use Rattle.spiral_tool.specs.declared.status.Status.TheVariants.{Done, NoMemory, Usage, UnknownSet, IndexRange, WordsShort, FileFault, BadFrame, WrongSet, Absent, BadRecords, SinkFault}
 use Rattle.spiral_model.specs.Sets.{name_of}

@@ -5,10 +5,10 @@ use Rattle.pir_io.specs.Faults.{Rose}
 use Rattle.pir_io.specs.Files.{FilesSeen, Keeps, KeepsOthers, content_of}
 use Rattle.pir_io.specs.Reading.{FailedReading, FailedWriting, HoldsPrefix}
 use Rattle.pir_io.specs.Sink.{SinkSeen}
-use Rattle.spiral_model.specs.declared.param_set.ParamSet.{ParamSet}
+use Rattle.spiral_sets.specs.declared.param_set.ParamSet.{ParamSet}
 use Rattle.spiral_model.specs.Sets.{max_records, capacity}
 use Rattle.spiral_model.specs.Databases.{RecordTable, IsTable, record_count}
-use Rattle.spiral_model.specs.Frames.{frame_of, database_message}
+use Rattle.spiral_frames.specs.Frames.{frame_of, database_message}
 use Rattle.record_store.specs.declared.preparing.PrepareError.{PrepareError}
 use Rattle.record_store.specs.declared.preparing.PrepareError.TheVariants.{RecordLength, TooMany, Ragged}
 use Rattle.record_store.specs.Preparing.{MayBeLong}

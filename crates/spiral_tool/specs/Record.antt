@@ -8,7 +8,7 @@ use Rattle.spiral_tool.specs.declared.input.InputError.{InputError}
 use Rattle.spiral_tool.specs.declared.input.InputError.TheVariants as input
 use Rattle.record_store.specs.declared.storing.DbError.{DbError}
 use Rattle.record_store.specs.declared.storing.DbError.TheVariants as db
-use Rattle.spiral_model.specs.Refusals.{code_of, place_of}
+use Rattle.spiral_frames.specs.Refusals.{code_of, place_of}
 use Rattle.spiral_tool.specs.Texts.{file_fault_line, bad_frame_line}
 use Rattle.spiral_tool.specs.Puts.{GotNothing, GotLine, GotPrefix, GotRefusal, Refused}
 use Rattle.pir_io.specs.Reading.{FailedWriting, HoldsPrefix}

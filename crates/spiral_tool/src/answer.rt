@@ -1,17 +1,16 @@
 ghost use Rattle.std.specs.Prelude.{◌≡◌, ◌≢◌, ◌≤◌, true, false, IsTrue, length, IfOk};
 ghost use Rattle.pir_io.specs.Files.{content_of};
 ghost use Rattle.spiral_model.specs.Sets.{IsSet, IsBuilt, name_of};
-ghost use Rattle.spiral_model.specs.Refusals.{code_of, place_of};
-ghost use Rattle.spiral_model.specs.Queries.{IsQuery};
-ghost use Rattle.spiral_model.specs.Answering.{answer_of};
-ghost use Rattle.spiral_model.specs.Frames.{frame_of, reply_message};
+ghost use Rattle.spiral_frames.specs.Refusals.{code_of, place_of};
+ghost use Rattle.spiral_model.specs.Bodies.{IsQuery};
+ghost use Rattle.spiral_frames.specs.Frames.{frame_of, reply_message};
 ghost use Rattle.spiral_tool.specs.Texts.{bad_frame_line, reply_line};
 ghost use Rattle.spiral_tool.specs.Puts.{Refused};
 ghost use Rattle.spiral_tool.specs.Inputs.{IsEmpty};
 ghost use Rattle.spiral_tool.specs.Reading.{ReadsMessage};
 ghost use Rattle.spiral_tool.specs.Record.{EndsWithFile, DatabaseRefused};
 ghost use Rattle.spiral_tool.specs.Words.{answer_seen};
-ghost use Rattle.spiral_tool.specs.Answer.{AnswersFor};
+ghost use Rattle.spiral_tool.specs.Answer.{AnswersFor, answered};
 
 use crate::frames::read_query;
 use crate::input::{InputError, read_front};
@@ -19,13 +18,14 @@ use crate::open::{refuse_input, refuse_set};
 use crate::output::{FILE_FAULT, bad_frame_text, finish, refuse, reply_text};
 use crate::status::Status;
 use crate::words::Answer;
+use frame_headers::FrameError;
 use no_memory::NoMemory;
 use pir_io::{Files, Gate, IoFault, Sink, write_file};
 use pir_server::Server;
 use pir_wire::encode_reply;
 use record_store::{Database, DbError, read_db};
 use regev_code::QueryBody;
-use spiral_model::{FrameError, ParamSet};
+use spiral_sets::ParamSet;
 use std::alloc::Global;
 use std::thread::Threads;
 
@@ -54,7 +54,7 @@ pub fn answer_files<R: Threads + Sync, F: Files, G: Gate, O: Sink>(
         Err(error) => return refuse_input(sink, error),
     };
     let set = db.set;
-    if !same_set(&set, &query.set) {
+    if !set.is(&query.set) {
         return refuse_set(alloc, sink, &set, &query.set);
     }
     match reply_frame(rt, alloc, db, answer.workers, &query, gate) {
@@ -96,14 +96,6 @@ fn read_empty<F: Files>(alloc: Global, files: &mut F, name: &str) -> Result<(), 
     }
 }
 
-// Whether the two are one set.
-fn same_set(a: &ParamSet, b: &ParamSet) -> bool
-    ensures same { result ≡ true → a.now ≡ b.now }
-    ensures other { result ≡ false → a.now ≢ b.now }
-{
-    *a == *b
-}
-
 // The frame of the answer to a query of the database's set. Such a set has no keys.
 fn reply_frame<R: Threads + Sync, G: Gate>(
     rt: &R,
@@ -118,7 +110,7 @@ fn reply_frame<R: Threads + Sync, G: Gate>(
     requires query { IsQuery query.now }
     requires some { 1 ≤ workers }
     requires few { workers ≤ 64 }
-    ensures { IfOk result (λ bytes. bytes.items ≡ frame_of (reply_message (answer_of db query.now))) }
+    ensures { IfOk result (λ bytes. bytes.items ≡ frame_of (reply_message (answered db query.now))) }
 {
     let mut server = Server::new(rt, alloc, db, workers)?;
     let reply = server.answer(rt, None, query, gate)?;

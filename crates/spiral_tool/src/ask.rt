@@ -1,6 +1,6 @@
 ghost use Rattle.std.specs.Prelude.{◌≡◌, length, IfSome, IfNone, IfOk};
 ghost use Rattle.spiral_model.specs.Sets.{IsSet, IsBuilt};
-ghost use Rattle.spiral_model.specs.Frames.{frame_of, state_message};
+ghost use Rattle.spiral_frames.specs.Frames.{frame_of, state_message};
 ghost use Rattle.spiral_tool.specs.Texts.{index_range_line, words_short_line, query_line};
 ghost use Rattle.spiral_tool.specs.Puts.{Refused};
 ghost use Rattle.spiral_tool.specs.Words.{ask_seen};
@@ -19,7 +19,7 @@ use no_memory::NoMemory;
 use pir_client::Asked;
 use pir_io::{Files, IoFault, Sink};
 use pir_wire::encode_state;
-use spiral_model::{ParamSet, set_named};
+use spiral_sets::{ParamSet, set_named};
 use std::alloc::Global;
 
 /// Makes a query for an index from random words, and writes the state, the setup and the query to three files.

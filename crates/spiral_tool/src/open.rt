@@ -11,7 +11,7 @@ use crate::output::{FILE_FAULT, absent_text, finish, record_text, refuse, wrong_
 use crate::status::Status;
 use pir_client::{OpenError, open};
 use pir_io::{Files, IoFault, Sink, write_file};
-use spiral_model::ParamSet;
+use spiral_sets::ParamSet;
 use std::alloc::Global;
 
 /// Opens the reply in one file by the state in another and writes the record to a third.

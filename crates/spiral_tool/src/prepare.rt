@@ -1,7 +1,7 @@
 ghost use Rattle.std.specs.Prelude.{◌≡◌, ◌≤◌, ◌+◌, ◌*◌};
 ghost use Rattle.spiral_model.specs.Sets.{IsSet, IsBuilt, max_records, capacity};
 ghost use Rattle.spiral_model.specs.Databases.{record_count};
-ghost use Rattle.spiral_model.specs.Frames.{frame_of, database_message};
+ghost use Rattle.spiral_frames.specs.Frames.{frame_of, database_message};
 ghost use Rattle.spiral_tool.specs.Texts.{bad_records_line, database_line};
 ghost use Rattle.spiral_tool.specs.Puts.{Refused};
 ghost use Rattle.spiral_tool.specs.Words.{prepare_seen};
@@ -14,7 +14,7 @@ use crate::status::Status;
 use crate::words::Prepare;
 use pir_io::{Files, IoFault, Sink, read_front};
 use record_store::{Database, DbError, PrepareError, check_length, write_db};
-use spiral_model::ParamSet;
+use spiral_sets::ParamSet;
 use std::alloc::Global;
 
 /// Makes a database of the records in one file, and writes its frame to another.

@@ -1,16 +1,17 @@
 ghost use Rattle.std.specs.Prelude.{◌≡◌, ◌+◌, ◌*◌, ◌<◌, ◌≤◌, ℕ, List, length, IfOk, IfSome, IfNone};
 ghost use Rattle.spiral_model.specs.Sets.{IsSet, q};
-ghost use Rattle.spiral_model.specs.Queries.{query_rows};
-ghost use Rattle.spiral_model.specs.Frames.{number};
+ghost use Rattle.spiral_model.specs.Words.{Poly, Cipher};
+ghost use Rattle.spiral_model.specs.Bodies.{query_rows};
+ghost use Rattle.spiral_frames.specs.Headers.{number};
 ghost use Rattle.ring_poly.specs.Polynomials.{IsDegree};
 ghost use Rattle.spiral_tool.specs.Bodies.{IsQueryBody, NoQueryBody};
 ghost use Rattle.spiral_tool.specs.Pieces.{SpellPoly, SpellRows, SpellCiphers};
 
-use crate::header::{Kind, number_at};
+use frame_headers::number_at;
 use no_memory::NoMemory;
 use regev_code::{Cipher, QueryBody};
-use ring_poly::{Poly, Q};
-use spiral_model::ParamSet;
+use ring_poly::Poly;
+use spiral_sets::{ParamSet, Q};
 use std::alloc::Global;
 
 /// How many bytes a residue has: q is below 2^56.
@@ -22,7 +23,9 @@ fn residue_of(bytes: &[u8]) -> Option<u64>
     ensures found { IfSome result (λ x. (x < q) × (number 7 x ≡ bytes.now)) }
     ensures none { IfNone result ((x : ℕ) → x < q → number 7 x ≡ bytes.now → ⊥) }
 {
-    let number = number_at(bytes);
+    let mut eight = [0; 8];
+    eight[..RESIDUE].copy_from_slice(bytes);
+    let number = number_at(&eight, 0);
     if number >= Q {
         return None;
     }
@@ -33,7 +36,7 @@ fn residue_of(bytes: &[u8]) -> Option<u64>
 fn residues_of(alloc: Global, degree: usize, bytes: &[u8]) -> Result<Option<Vec<u64>>, NoMemory>
     requires { length bytes.now ≡ degree * 7 }
     ensures found { IfOk result (λ found. IfSome found (λ residues. SpellPoly degree bytes.now residues.items)) }
-    ensures none { IfOk result (λ found. IfNone found ((poly : List ℕ) → SpellPoly degree bytes.now poly → ⊥)) }
+    ensures none { IfOk result (λ found. IfNone found ((poly : Poly) → SpellPoly degree bytes.now poly → ⊥)) }
 {
     let mut residues = Vec::with_capacity(alloc, degree)?;
     for k in 0..degree {
@@ -50,7 +53,7 @@ fn poly_of(alloc: Global, degree: usize, bytes: &[u8]) -> Result<Option<Poly>, N
     requires degree { IsDegree degree }
     requires room { length bytes.now ≡ degree * 7 }
     ensures found { IfOk result (λ found. IfSome found (SpellPoly degree bytes.now)) }
-    ensures none { IfOk result (λ found. IfNone found ((poly : List ℕ) → SpellPoly degree bytes.now poly → ⊥)) }
+    ensures none { IfOk result (λ found. IfNone found ((poly : Poly) → SpellPoly degree bytes.now poly → ⊥)) }
 {
     let Some(residues) = residues_of(alloc, degree, bytes)? else {
         return Ok(None);
@@ -68,7 +71,7 @@ fn rows_of(
     requires degree { IsDegree degree }
     requires room { length bytes.now ≡ count * (degree * 7) }
     ensures found { IfOk result (λ found. IfSome found (λ rows. SpellRows degree count bytes.now rows.items)) }
-    ensures none { IfOk result (λ found. IfNone found ((rows : List (List ℕ)) → SpellRows degree count bytes.now rows → ⊥)) }
+    ensures none { IfOk result (λ found. IfNone found ((rows : Cipher) → SpellRows degree count bytes.now rows → ⊥)) }
 {
     let len = degree * RESIDUE;
     let mut rows = Vec::with_capacity(alloc, count)?;
@@ -103,7 +106,7 @@ fn cipher_of(
     requires most { m ≤ 4 }
     requires room { length bytes.now ≡ (m + 1) * (degree * 7) }
     ensures found { IfOk result (λ found. IfSome found (SpellRows degree (m + 1) bytes.now)) }
-    ensures none { IfOk result (λ found. IfNone found ((rows : List (List ℕ)) → SpellRows degree (m + 1) bytes.now rows → ⊥)) }
+    ensures none { IfOk result (λ found. IfNone found ((rows : Cipher) → SpellRows degree (m + 1) bytes.now rows → ⊥)) }
 {
     let Some(rows) = rows_of(alloc, degree, m + 1, bytes)? else {
         return Ok(None);
@@ -125,7 +128,7 @@ fn ciphers_of(
     requires most { m ≤ 4 }
     requires room { length bytes.now ≡ count * ((m + 1) * (degree * 7)) }
     ensures found { IfOk result (λ found. IfSome found (λ ciphers. SpellCiphers degree m count bytes.now ciphers.items)) }
-    ensures none { IfOk result (λ found. IfNone found ((ciphers : List (List (List ℕ))) → SpellCiphers degree m count bytes.now ciphers → ⊥)) }
+    ensures none { IfOk result (λ found. IfNone found ((ciphers : List Cipher) → SpellCiphers degree m count bytes.now ciphers → ⊥)) }
 {
     let len = cipher_len(degree, m);
     let mut ciphers = Vec::with_capacity(alloc, count)?;
@@ -138,17 +141,14 @@ fn ciphers_of(
     Ok(Some(ciphers))
 }
 
-/// How many rows a query's ciphertexts have below row 0.
+/// How many rows a query's ciphertexts have below row 0: those of the set, or one where the query is one ciphertext.
 fn rows_below(set: &ParamSet) -> usize
     requires { IsSet set.now }
     ensures value { result ≡ query_rows set.now }
     ensures some { 1 ≤ result }
     ensures most { result ≤ 4 }
 {
-    if !set.direct {
-        return 1;
-    }
-    if set.pack { 1 } else { set.n as usize }
+    if set.direct { set.rows() as usize } else { 1 }
 }
 
 /// The query of that set whose body the bytes are: the residues of its ciphertexts, 7 bytes each. `None` exactly
@@ -162,7 +162,7 @@ pub fn query_from_body(
     ensures found { IfOk result (λ found. IfSome found (IsQueryBody set.now body.now)) }
     ensures none { IfOk result (λ found. IfNone found (NoQueryBody set.now body.now)) }
 {
-    if body.len() as u64 != Kind::Query.body_len(set) {
+    if body.len() as u64 != set.query_len() {
         return Ok(None);
     }
     let m = rows_below(set);

@@ -2,8 +2,8 @@ ghost use Rattle.std.specs.Prelude.{◌≡◌, ◌≢◌, ◌++◌, ◌<◌, Lis
 ghost use Rattle.spiral_model.specs.Sampling.{seeded_words as seed_words};
 ghost use Rattle.spiral_tool.specs.Sources.{ReadsWords, WordSource, NamesSource, source_seen, words_written};
 
-use crate::header::number_at;
 use crate::input::read_front;
+use frame_headers::number_at;
 use no_memory::NoMemory;
 use pir_io::{Files, IoFault};
 use regev_code::seeded_words;
@@ -54,7 +54,7 @@ fn written_words(alloc: Global, bytes: &[u8]) -> Result<Vec<u64>, NoMemory>
 {
     let mut words = Vec::new(alloc);
     for k in 0..bytes.len() / WORD {
-        words.push(number_at(&bytes[WORD * k..WORD * k + WORD]))?;
+        words.push(number_at(bytes, WORD * k))?;
     }
     Ok(words)
 }

@@ -1,13 +1,13 @@
 ghost use Rattle.std.specs.Prelude.{◌≡◌, ◌≤◌, List, ℤ, map, All, IfOk, IfSome, IfNone};
 ghost use Rattle.spiral_model.specs.Sets.{IsSet};
-ghost use Rattle.spiral_model.specs.Switched.{IsTernary};
-ghost use Rattle.spiral_model.specs.Frames.{secret_byte};
+ghost use Rattle.spiral_model.specs.Replies.{IsTernary};
+ghost use Rattle.spiral_frames.specs.Frames.{secret_byte};
 ghost use Rattle.spiral_tool.specs.Bodies.{IsStateBody, NoStateBody};
 
-use crate::header::{Kind, number_at};
+use frame_headers::number_at;
 use modulus_switch::ClientState;
 use no_memory::NoMemory;
-use spiral_model::ParamSet;
+use spiral_sets::ParamSet;
 use std::alloc::Global;
 
 /// The secret number that a byte stands for: the byte less 1.
@@ -45,10 +45,10 @@ pub fn state_from_body(
     ensures found { IfOk result (λ found. IfSome found (IsStateBody set.now body.now)) }
     ensures none { IfOk result (λ found. IfNone found (NoStateBody set.now body.now)) }
 {
-    if body.len() as u64 != Kind::State.body_len(set) {
+    if body.len() as u64 != set.state_len() {
         return Ok(None);
     }
-    let index = number_at(&body[..8]);
+    let index = number_at(body, 0);
     if index >= set.max_records() {
         return Ok(None);
     }

@@ -114,8 +114,10 @@ fn reads_a_query(rt: HostRuntime) -> Result<(), Fail> {
     };
     assert_eq!(rt; cipher.polys.len(), 3);
     for (r, poly) in cipher.polys.iter().enumerate() {
-        assert_eq!(rt; poly.coeffs().len(), 256);
-        for (k, residue) in poly.coeffs().iter().enumerate() {
+        assert_eq!(rt; poly.degree(), 256);
+        let mut residues = vec![in alloc; 0u64; poly.degree()]?;
+        poly.coeffs_into(&mut residues);
+        for (k, residue) in residues.iter().enumerate() {
             let there = (r, k) == (1, 5);
             assert_eq!(rt;
                 *residue,

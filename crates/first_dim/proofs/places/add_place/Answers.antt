@@ -5,19 +5,20 @@ use Rattle.first_dim.proofs.places.add_place.Goals as goal
 
 pub loop-r-init : goal.loop-r-init
 loop-r-init c =
-    added_none c.args.set.now.degree (rows c.args.set.now + 1) c.args.sum.now
-    (λ row r. place_term c.args.set.now c.args.matrix.now c.args.firsts.now c.args.i c.args.c row r) c.requires.sum
+    let set = c.args.set.now in
+    added_none set.degree (rows set + 1) c.args.sum.now (place_term set c.args.firsts.now c.args.matrix.now c.args.i c.args.c) c.requires.sum
 
 pub loop-r-preserved : goal.loop-r-preserved
 loop-r-preserved c =
-    product_more c.args.set.now.degree c.args.ring.now (rows c.args.set.now + 1) c.args.sum.now
-    (λ row r. place_term c.args.set.now c.args.matrix.now c.args.firsts.now c.args.i c.args.c row r)
-    c.loop-r.r c.loop-r.sum c.add_product.new.self _ _ c.requires.degree c.loop-r.invariant c.add_product.ensures
+    let set = c.args.set.now in
+    product_more set.degree c.args.ring.now (rows set + 1) c.args.sum.now (place_term set c.args.firsts.now c.args.matrix.now c.args.i c.args.c)
+    c.loop-r.r c.loop-r.sum c.add_product.new.self _ _ c.requires.degree c.requires.sum c.loop-r.invariant c.add_product.ensures
     (λ row.
-    term_read c.args.set.now c.args.matrix.now c.args.firsts.now c.args.i c.args.c c.loop-r.r c.row_count-rows.result _ _ row
-    c.requires.matrix c.requires.firsts c.requires.place c.requires.column c.row_count-rows.ensures c.loop-r-test.true c.index-firsts-i.is c.index-matrix-r.is)
+    term_read set c.args.firsts.now c.args.matrix.now c.args.i c.args.c c.loop-r.r c.rows-rows.result _ _ row
+    c.requires.matrix c.requires.firsts c.requires.place c.requires.column c.rows-rows.ensures.value c.loop-r-test.true c.index-firsts-i.is c.index-matrix-r.is)
 
 pub returns-clause-value : goal.returns-clause-value
 returns-clause-value c =
-    place_done c.args.set.now c.args.matrix.now c.args.firsts.now c.args.i c.args.c (rows c.args.set.now + 1) c.loop-r.r c.args.sum.now c.loop-r.sum
-    (omega (arith, c.row_count-rows.ensures)) c.loop-r.invariant
+    let set = c.args.set.now in
+    place_done set c.args.firsts.now c.args.matrix.now c.args.i c.args.c (rows set + 1) c.loop-r.r c.args.sum.now c.loop-r.sum
+    (omega (arith, c.rows-rows.ensures.value)) c.loop-r.invariant

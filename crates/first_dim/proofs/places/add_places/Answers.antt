@@ -5,20 +5,22 @@ use Rattle.first_dim.proofs.places.add_places.Goals as goal
 
 pub loop-i-init : goal.loop-i-init
 loop-i-init c =
-    added_none c.args.set.now.degree (rows c.args.set.now + 1) c.args.sum.now (λ row i. place_of c.args.set.now c.args.matrices.now c.args.firsts.now c.args.j c.args.c row i)
-    c.requires.sum
+    let set = c.args.set.now in
+    added_none set.degree (rows set + 1) c.args.sum.now (place_of set c.args.matrices.now c.args.firsts.now c.args.j c.args.c) c.requires.sum
 
 pub bounds-matrices-j : goal.bounds-matrices-j
 bounds-matrices-j c =
-    matrix_within c.args.set.now c.args.matrices.now c.args.j c.loop-i.i c.place_count-places.result c.requires.matrices c.requires.folded (omega (arith, c.loop-i-test.true)) c.place_count-places.ensures
+    matrix_within c.args.set.now c.args.matrices.now c.args.j c.loop-i.i c.places-places.result c.requires.matrices c.requires.folded (omega (arith, c.loop-i-test.true)) c.places-places.ensures.value
 
 pub loop-i-preserved : goal.loop-i-preserved
 loop-i-preserved c =
-    place_more c.args.set.now c.args.matrices.now c.args.firsts.now c.args.j c.args.c (rows c.args.set.now + 1) c.loop-i.i c.place_count-places.result
-    c.args.sum.now c.loop-i.sum c.add_place.new.sum c.deref.result.now _ c.requires.matrices c.requires.folded (omega (arith, c.loop-i-test.true)) c.place_count-places.ensures
+    let set = c.args.set.now in
+    place_more set c.args.matrices.now c.args.firsts.now c.args.j c.args.c (rows set + 1) c.loop-i.i c.places-places.result
+    c.args.sum.now c.loop-i.sum c.add_place.new.sum c.deref.result.now _ c.requires.sum c.requires.matrices c.requires.folded (omega (arith, c.loop-i-test.true)) c.places-places.ensures.value
     (c.deref.ensures.value ∙ c.matrix.view_is) c.index-matrices-j.is c.loop-i.invariant c.add_place.ensures.value
 
 pub returns-clause-value : goal.returns-clause-value
 returns-clause-value c =
-    places_done c.args.set.now c.args.matrices.now c.args.firsts.now c.args.j c.args.c (rows c.args.set.now + 1) c.loop-i.i c.args.sum.now c.loop-i.sum
-    (omega (arith, c.place_count-places.ensures)) c.loop-i.invariant
+    let set = c.args.set.now in
+    places_done set c.args.matrices.now c.args.firsts.now c.args.j c.args.c (rows set + 1) c.loop-i.i c.args.sum.now c.loop-i.sum
+    (omega (arith, c.places-places.ensures.value)) c.loop-i.invariant

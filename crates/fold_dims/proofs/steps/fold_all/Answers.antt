@@ -1,7 +1,8 @@
-use Rattle.std.proofs.Common.{◌≡◌, ◌∙◌, ℕ, ◌+◌, ◌*◌, ◌/◌, ◌<◌, List, [], length, take, All, refl, ap, subst, arith}
+use Rattle.std.proofs.Common.{◌≡◌, ◌∙◌, ◌+◌, ◌*◌, ◌/◌, ◌<◌, List, [], length, take, All, refl, ap, subst, arith}
 use Rattle.std.proofs.lemmas.List.{get_or_read}
-use Rattle.spiral_model.specs.declared.param_set.ParamSet.{ParamSet}
+use Rattle.spiral_sets.specs.declared.param_set.ParamSet.{ParamSet}
 use Rattle.spiral_model.specs.Sets.{rows}
+use Rattle.spiral_model.specs.Words.{Cipher}
 use Rattle.spiral_model.specs.Answering.{fold_step}
 use Rattle.regev_code.specs.Products.{HasShape}
 use Rattle.fold_dims.proofs.Folds.{folds-more, folds-all}
@@ -11,7 +12,7 @@ pub loop-gsw-preserved : goal.loop-gsw-preserved
 loop-gsw-preserved c =
     let place : c.loop-gsw.gsw-index < length c.args.gsws.now = omega arith in
     let kept : c.loop-gsw.scratch ≡ c.args.scratch.now = c.loop-gsw.invariant.kept in
-    let before : List (List (List ℕ)) = take (2 * (c.loop-gsw.size / 2)) c.loop-gsw.ciphers in
+    let before : List Cipher = take (2 * (c.loop-gsw.size / 2)) c.loop-gsw.ciphers in
     record {
       folds = λ count whole.
           folds-more c.args.ring.now c.args.scratch.now.w_gsw count c.args.gsws.now c.args.ciphers.now c.loop-gsw.gsw-index c.loop-gsw.size (c.loop-gsw.size / 2) c.loop-gsw.ciphers

@@ -1,4 +1,4 @@
-use Rattle.std.proofs.Common.{◌+◌, arith}
+use Rattle.std.proofs.Common.{◌+◌}
 use Rattle.std.proofs.lemmas.List.Elements.{All-append, All-drop, All-same}
 use Rattle.spiral_model.specs.Sets.{rows}
 use Rattle.regev_code.specs.Products.{HasShape}

@@ -1,11 +1,9 @@
-use Rattle.std.proofs.Common.{◌≡◌, ◌*◌, ◌++◌, if◌then◌else◌}
-use Rattle.spiral_model.specs.Sets.{rows}
-use Rattle.spiral_model.specs.Ciphertexts.{encrypted_all, words_taken}
-use Rattle.regev_code.specs.Shapes.{under, taken}
-use Rattle.gsw_code.specs.Messages.{first_columns}
+use Rattle.std.proofs.Common.{map, if◌then◌else◌}
+use Rattle.std.specs.List.{range_with_len}
+use Rattle.spiral_model.specs.Queries.{gsw_messages}
+use Rattle.gsw_code.specs.Columns.{ColumnsDrawn}
 use Rattle.gsw_code.proofs.encrypt.draw_row.Given as goal
 
 abbrev pub invariant-loop-k : goal.invariant-loop-k
 invariant-loop-k l =
-    (l.draw ≡ taken l.fn.draw (l.k * words_taken l.ring (rows l.set)))
-    × (l.columns.items ≡ l.fn.columns.items ++ encrypted_all l.ring l.fn.draw.words l.fn.draw.used (under l.ring l.secret l.set.pack) (first_columns l.set (under l.ring l.secret l.set.pack) (if l.bit then 1 else 0) l.r l.k))
+    ColumnsDrawn l.set l.secret (λ s. map (gsw_messages l.set s (if l.bit then 1 else 0) l.r) (range_with_len 0 l.k)) l.fn.draw l.draw l.fn.columns.items l.columns.items

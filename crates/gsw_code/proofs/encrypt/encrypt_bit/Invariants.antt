@@ -1,11 +1,9 @@
-use Rattle.std.proofs.Common.{◌≡◌, ◌*◌, if◌then◌else◌}
-use Rattle.spiral_model.specs.Sets.{rows, digit_count}
-use Rattle.spiral_model.specs.Ciphertexts.{encrypted_all, words_taken}
-use Rattle.regev_code.specs.Shapes.{under, taken}
-use Rattle.gsw_code.specs.Messages.{first_rows}
+use Rattle.std.proofs.Common.{[], if◌then◌else◌}
+use Rattle.std.specs.List.{range_with_len, flat_map}
+use Rattle.spiral_model.specs.Queries.{gsw_row_columns}
+use Rattle.gsw_code.specs.Columns.{ColumnsDrawn}
 use Rattle.gsw_code.proofs.encrypt.encrypt_bit.Given as goal
 
 abbrev pub invariant-loop-r : goal.invariant-loop-r
 invariant-loop-r l =
-    (l.ahead ≡ taken l.draw (l.r * digit_count l.set.w_gsw * words_taken l.ring (rows l.set)))
-    × (l.columns.items ≡ encrypted_all l.ring l.draw.words l.draw.used (under l.ring l.secret l.set.pack) (first_rows l.set (under l.ring l.secret l.set.pack) (if l.bit then 1 else 0) l.r))
+    ColumnsDrawn l.set l.secret (λ s. flat_map (gsw_row_columns l.set s (if l.bit then 1 else 0)) (range_with_len 0 l.r)) l.draw l.ahead [] l.columns.items

@@ -1,13 +1,10 @@
-use Rattle.std.proofs.Common.{◌∙◌, sym}
+use Rattle.std.proofs.Common.{◌+◌, arith}
+use Rattle.negacyclic.proofs.Lists.{pushed_more}
+use Rattle.spiral_model.specs.Queries.{column_message}
 use Rattle.regev_code.specs.Shapes.{under}
-use Rattle.gsw_code.proofs.ColumnMessages.{messages-none, messages-more}
 use Rattle.gsw_code.proofs.messages.column_messages.Goals as goal
-
-pub loop-i-init : goal.loop-i-init
-loop-i-init c =
-    c.new-messages.ensures.items ∙ sym (messages-none c.args.ring.now (under c.args.ring.now c.args.secret.now c.args.scalar) c.args.power c.args.r)
 
 pub loop-i-preserved : goal.loop-i-preserved
 loop-i-preserved c =
-    messages-more c.args.ring.now (under c.args.ring.now c.args.secret.now c.args.scalar) c.args.power c.args.r c.loop-i.i c.loop-i.messages.items c.push.new.self.items
-    c.in_ok-message.field-0 c.loop-i.invariant c.in_ok-message.ensures c.in_ok-push.ensures.items
+    pushed_more (column_message c.args.ring.now (under c.args.ring.now c.args.secret.now c.args.set.now.pack) c.args.power c.args.r) 1 c.loop-i.i (c.loop-i.i + 1)
+    c.loop-i.messages.items c.push.new.self.items c.in_ok-message.field-0 (omega arith) c.loop-i.invariant c.in_ok-push.ensures.items c.in_ok-message.ensures

@@ -1,7 +1,8 @@
-use Rattle.std.proofs.Common.{◌≡◌}
+use Rattle.std.proofs.Common.{◌≡◌, map}
+use Rattle.std.specs.List.{range_with_len}
+use Rattle.spiral_model.specs.Queries.{column_message}
 use Rattle.regev_code.specs.Shapes.{under}
-use Rattle.gsw_code.specs.Messages.{messages_of}
 use Rattle.gsw_code.proofs.messages.column_messages.Given as goal
 
 abbrev pub invariant-loop-i : goal.invariant-loop-i
-invariant-loop-i l = l.messages.items ≡ messages_of l.ring (under l.ring l.secret l.scalar) l.power l.i l.r
+invariant-loop-i l = l.messages.items ≡ map (column_message l.ring (under l.ring l.secret l.set.pack) l.power l.r) (range_with_len 1 l.i)

@@ -1,5 +1,5 @@
 use Rattle.std.proofs.Common.{arith, ◌^◌, ◌*◌, ◌<◌}
-use Rattle.spiral_model.specs.Sets.{q}
+use Rattle.spiral_sets.specs.Sets.{q}
 use Rattle.ring_poly.proofs.Modulus.{q_some, q_is}
 use Rattle.gsw_code.proofs.Widths.{power-below}
 use Rattle.gsw_code.proofs.messages.power_of.Goals as goal

@@ -2,7 +2,8 @@ use Rattle.std.proofs.Common.{◌≡◌, ◌∙◌, ◌++◌, ℕ, List, length,
 use Rattle.spiral_model.specs.Gadgets.{cipher_add}
 use Rattle.regev_code.specs.Shapes.{IsCipher}
 use Rattle.regev_code.specs.Products.{HasShape}
-use Rattle.regev_code.proofs.Products.{refilled, cipher_kept}
+use Rattle.negacyclic.proofs.Lists.{refilled}
+use Rattle.regev_code.proofs.Products.{cipher_kept}
 use Rattle.gsw_code.proofs.Products.{sum-shape}
 use Rattle.gsw_code.proofs.product.add_form.Goals as goal
 

@@ -1,6 +1,6 @@
 use Rattle.std.proofs.Common.{◌≡◌, ◌*◌, take}
 use Rattle.std.specs.List.{range_with_len, flat_map}
-use Rattle.spiral_model.specs.Switched.{opened_entry}
+use Rattle.spiral_model.specs.Replies.{opened_entry}
 use Rattle.modulus_switch.proofs.open.open_entries.Given as goal
 
 abbrev pub invariant-loop-e : goal.invariant-loop-e

@@ -1,23 +1,18 @@
-use Rattle.std.proofs.Common.{◌≡◌, ℕ, ◌∙◌, arith}
-use Rattle.std.proofs.lemmas.List.Edits.{fill_by_more}
-use Rattle.std.proofs.lemmas.List.FromFn.{fill_by_all}
-use Rattle.negacyclic.specs.Ring.{at, product_at}
-use Rattle.modulus_switch.specs.Opening.{number_at, opened, opened_numbers}
+use Rattle.std.proofs.Common.{◌≡◌, ◌∙◌, arith}
+use Rattle.negacyclic.proofs.Filled.{filled_more, filled_count}
+use Rattle.modulus_switch.specs.Numbers.{opened_number}
 use Rattle.modulus_switch.proofs.Entries.{number_opened}
 use Rattle.modulus_switch.proofs.open.open_numbers.Goals as goal
 
 pub loop-k-preserved : goal.loop-k-preserved
 loop-k-preserved c =
     let set = c.args.set.now in
-    let f = λ (k : ℕ). opened set (at c.args.b.now k) (product_at set.degree (number_at c.args.secret.now) (at c.args.a.now) k) in
-    let value : c.opened_value.result ≡ f c.loop-k.k =
+    let value : c.opened_value.result ≡ opened_number set c.args.secret.now c.args.mask.now c.args.b.now c.loop-k.k =
     c.opened_value.ensures
-    ∙ number_opened set c.args.secret.now c.args.a.now c.args.b.now c.loop-k.k c.secret_product.result c.requires.a_length (record { sfits = c.secret_product.type_inv }) c.secret_product.ensures.value in
-    rw value (fill_by_more f c.loop-k.out c.loop-k.k 0 (omega arith) c.loop-k.invariant)
+    ∙ number_opened set c.args.secret.now c.args.mask.now c.args.b.now c.loop-k.k c.secret_product.result c.requires.mask_length (record { sfits = c.secret_product.type_inv }) c.secret_product.ensures.value in
+    filled_more (opened_number set c.args.secret.now c.args.mask.now c.args.b.now) c.args.out.now c.loop-k.k c.loop-k.out c.opened_value.result (omega arith) c.loop-k.invariant value
 
 pub returns : goal.returns
-unfolding opened_numbers
 returns c =
     let set = c.args.set.now in
-    fill_by_all (λ k. opened set (at c.args.b.now k) (product_at set.degree (number_at c.args.secret.now) (at c.args.a.now) k)) c.loop-k.out set.degree 0
-    (omega arith) (λ k h. c.loop-k.invariant k (omega arith))
+    filled_count (opened_number set c.args.secret.now c.args.mask.now c.args.b.now) c.args.out.now set.degree c.loop-k.k c.loop-k.out (omega arith) (omega arith) c.loop-k.invariant

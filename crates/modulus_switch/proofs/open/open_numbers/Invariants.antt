@@ -1,8 +1,6 @@
-use Rattle.std.proofs.Common.{◌≡◌, ◌<◌, ℕ, get_or}
-use Rattle.negacyclic.specs.Ring.{at, product_at}
-use Rattle.modulus_switch.specs.Opening.{number_at, opened}
+use Rattle.negacyclic.proofs.Filled.{Filled}
+use Rattle.modulus_switch.specs.Numbers.{opened_number}
 use Rattle.modulus_switch.proofs.open.open_numbers.Given as goal
 
 abbrev pub invariant-loop-k : goal.invariant-loop-k
-invariant-loop-k l =
-    (k : ℕ) → k < l.k → get_or l.out k 0 ≡ opened l.set (at l.b k) (product_at l.set.degree (number_at l.secret) (at l.a) k)
+invariant-loop-k l = Filled (opened_number l.set l.secret l.mask l.b) l.initial.out l.k l.out

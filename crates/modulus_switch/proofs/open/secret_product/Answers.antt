@@ -3,7 +3,7 @@ use Rattle.std.proofs.lemmas.Int.{ints, to_z-of_z}
 use Rattle.negacyclic.specs.Sums.{total}
 use Rattle.negacyclic.specs.Ring.{at}
 use Rattle.negacyclic.proofs.Turn.{product_term, product_at-terms}
-use Rattle.modulus_switch.specs.Opening.{number_at}
+use Rattle.modulus_switch.specs.Numbers.{secret_number}
 use Rattle.modulus_switch.proofs.Opening.{plain_terms_are, wrapped_step}
 use Rattle.modulus_switch.proofs.open.secret_product.Goals as goal
 
@@ -17,7 +17,7 @@ loop-i-init c =
 
 pub loop-i-preserved : goal.loop-i-preserved
 loop-i-preserved c =
-    let step : to_z w64 c.loop-i.sum-bits -ℤ c.signed-sum.result ≡ total (c.loop-i.i + 1) (product_term (length c.args.a.now) (number_at c.args.secret.now) (at c.args.a.now) c.args.k) =
+    let step : to_z w64 c.loop-i.sum-bits -ℤ c.signed-sum.result ≡ total (c.loop-i.i + 1) (product_term (length c.args.a.now) (secret_number c.args.secret.now) (at c.args.a.now) c.args.k) =
     wrapped_step c.args.secret.now c.args.a.now (length c.args.a.now) c.args.k c.loop-i.i (to_z w64 c.loop-i.sum-bits) c.signed-sum.result (omega arith) (omega arith) c.requires.ternary c.loop-i.invariant.value c.signed-sum.ensures.value in
     record { value = omega (arith, ints); size = omega (arith, ints) }
 
@@ -25,5 +25,5 @@ pub returns-clause-value : goal.returns-clause-value
 returns-clause-value c =
     let end : c.loop-i.i ≡ length c.args.a.now = omega arith in
     c.loop-i.invariant.value
-    ∙ ap (λ (n : ℕ). total n (product_term (length c.args.a.now) (number_at c.args.secret.now) (at c.args.a.now) c.args.k)) end
-    ∙ sym (product_at-terms (length c.args.a.now) (number_at c.args.secret.now) (at c.args.a.now) c.args.k c.requires.place)
+    ∙ ap (λ (n : ℕ). total n (product_term (length c.args.a.now) (secret_number c.args.secret.now) (at c.args.a.now) c.args.k)) end
+    ∙ sym (product_at-terms (length c.args.a.now) (secret_number c.args.secret.now) (at c.args.a.now) c.args.k c.requires.place)

@@ -1,5 +1,5 @@
 use Rattle.std.proofs.Common.{◌≡◌, replicate}
 use Rattle.modulus_switch.proofs.reply.zero_polys.Given as goal
 
-abbrev pub invariant-loop-place : goal.invariant-loop-place
-invariant-loop-place l = l.polys.items ≡ replicate l.place (replicate l.degree 0)
+abbrev pub invariant-loop : goal.invariant-loop
+invariant-loop l = l.polys.items ≡ replicate l.counter (replicate l.degree 0)

@@ -1,11 +1,8 @@
 use Rattle.std.proofs.Common.{◌≡◌}
-use Rattle.spiral_model.specs.Sets.{q}
-use Rattle.spiral_model.specs.Switched.{switched as switched_to}
-use Rattle.modulus_switch.proofs.Switching.{residue_size, switched_is, switched_below}
+use Rattle.spiral_sets.specs.Sets.{q}
+use Rattle.spiral_model.specs.Replies.{switched as switched_to}
+use Rattle.modulus_switch.proofs.Switching.{switched_is, switched_below}
 use Rattle.modulus_switch.proofs.switch.switched.Goals as goal
-
-pub scaled-requires-clause-c : goal.scaled-requires-clause-c
-scaled-requires-clause-c c = residue_size c.args.c c.requires.residue
 
 pub returns-clause-value : goal.returns-clause-value
 unfolding q

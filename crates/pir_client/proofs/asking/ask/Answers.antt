@@ -1,12 +1,7 @@
 use Rattle.std.proofs.Common.{◌≡◌, ◌∙◌, arith}
-use Rattle.spiral_model.specs.Queries.{query_body_of, state_of}
-use Rattle.pir_client.proofs.SetNumbers.{words_needed-are}
+use Rattle.spiral_model.specs.Dealing.{query_body_of, state_of}
 use Rattle.pir_client.proofs.QueryShapes.{query-drawn, state-drawn, asked-is, asked-front}
 use Rattle.pir_client.proofs.asking.ask.Goals as goal
-
-pub draw_query-requires-clause-enough : goal.draw_query-requires-clause-enough
-draw_query-requires-clause-enough c =
-    let needed = words_needed-are c.args.set.now c.requires.built.0 c.requires.built.1 in grind (arith, needed)
 
 state : (c : goal.After-drop-secret-inside-4) → c.in_ok-state.state ≡ state_of c.args.set.now c.args.words.now c.args.index
 state c =
@@ -14,8 +9,8 @@ state c =
 
 query : (c : goal.After-drop-secret-inside-4) → c.in_ok-query.query ≡ query_body_of c.args.set.now c.args.words.now c.args.index
 query c =
-    query-drawn c.in_ok-ring.ring c.args.set.now c.args.words.now c.args.index c.in_ok-secret.secret c.new-draw.result c.draw_secret.new.draw c.in_ok-query.query c.requires.built
-    c.in_ok-ring.ensures c.new-draw.ensures c.in_ok-secret.ensures.ok c.in_ok-secret.ensures.taken c.in_ok-query.ensures.set c.in_ok-query.ensures.ciphers
+    query-drawn c.args.set.now c.args.words.now c.args.index c.in_ok-secret.secret c.new-draw.result c.draw_secret.new.draw c.in_ok-query.query c.requires.built c.new-draw.ensures
+    c.in_ok-secret.ensures.ok c.in_ok-secret.ensures.taken c.in_ok-query.ensures.set c.in_ok-query.ensures.ciphers
 
 pub returns-clause-asks : goal.returns-clause-asks
 returns-clause-asks c = (

@@ -1,8 +1,7 @@
-use Rattle.spiral_model.specs.Sets.{rows}
-use Rattle.regev_code.specs.Shapes.{under}
-use Rattle.pir_client.specs.Drawn.{Drawn, first_places}
+use Rattle.std.specs.List.{range_with_len, flat_map}
+use Rattle.spiral_model.specs.Queries.{first_columns}
+use Rattle.gsw_code.specs.Columns.{ColumnsDrawn}
 use Rattle.pir_client.proofs.query.draw_first.Given as goal
 
 abbrev pub invariant-loop-u : goal.invariant-loop-u
-invariant-loop-u l =
-    Drawn l.ring (rows l.set) (under l.ring l.secret l.set.pack) (first_places l.set l.index l.u) l.fn.draw l.draw l.fn.ciphers.items l.ciphers.items
+invariant-loop-u l = ColumnsDrawn l.set l.secret (λ _. flat_map (first_columns l.set l.index) (range_with_len 0 l.u)) l.fn.draw l.draw l.fn.ciphers.items l.ciphers.items

@@ -1,9 +1,8 @@
-use Rattle.std.proofs.Common.{◌-◌}
-use Rattle.spiral_model.specs.Sets.{rows}
-use Rattle.regev_code.specs.Shapes.{under}
-use Rattle.pir_client.specs.Drawn.{Drawn, first_columns}
+use Rattle.std.proofs.Common.{map}
+use Rattle.std.specs.List.{range_with_len}
+use Rattle.spiral_model.specs.Queries.{first_messages}
+use Rattle.gsw_code.specs.Columns.{ColumnsDrawn}
 use Rattle.pir_client.proofs.query.draw_place.Given as goal
 
 abbrev pub invariant-loop-r : goal.invariant-loop-r
-invariant-loop-r l =
-    Drawn l.ring (rows l.set) (under l.ring l.secret l.set.pack) (first_columns l.set l.index l.u (l.r - 1)) l.fn.draw l.draw l.fn.ciphers.items l.ciphers.items
+invariant-loop-r l = ColumnsDrawn l.set l.secret (λ _. map (first_messages l.set l.index l.u) (range_with_len 1 l.r)) l.fn.draw l.draw l.fn.ciphers.items l.ciphers.items

@@ -1,5 +1,5 @@
 use Rattle.std.proofs.Common.{◌≡◌, ◌++◌, take, All}
-use Rattle.spiral_model.specs.Switched.{IsTernary}
+use Rattle.spiral_model.specs.Replies.{IsTernary}
 use Rattle.regev_code.specs.Shapes.{secret_row}
 use Rattle.pir_client.proofs.state.push_row.Given as goal
 

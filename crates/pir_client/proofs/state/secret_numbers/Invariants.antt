@@ -1,6 +1,6 @@
 use Rattle.std.proofs.Common.{◌≡◌, take, All}
 use Rattle.std.specs.List.{flat_map}
-use Rattle.spiral_model.specs.Switched.{IsTernary}
+use Rattle.spiral_model.specs.Replies.{IsTernary}
 use Rattle.pir_client.proofs.state.secret_numbers.Given as goal
 
 abbrev pub invariant-loop-r : goal.invariant-loop-r

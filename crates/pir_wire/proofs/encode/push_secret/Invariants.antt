@@ -1,5 +1,5 @@
 use Rattle.std.proofs.Common.{◌≡◌, ◌++◌, map, take}
-use Rattle.spiral_model.specs.Frames.{secret_byte}
+use Rattle.spiral_frames.specs.Frames.{secret_byte}
 use Rattle.pir_wire.proofs.encode.push_secret.Given as goal
 
 abbrev pub invariant-loop-number : goal.invariant-loop-number

@@ -1,5 +1,5 @@
 use Rattle.std.proofs.Common.{List, ℕ, ◌++◌, ap, ◌∙◌, arith, take_all}
-use Rattle.spiral_model.specs.Frames.{cipher_bytes}
+use Rattle.spiral_frames.specs.Frames.{cipher_bytes}
 use Rattle.pir_wire.proofs.residues.push_ciphers.Goals as goal
 
 pub returns : goal.returns

@@ -1,5 +1,5 @@
 use Rattle.std.proofs.Common.{ap, ◌∙◌, List, ℕ, ◌++◌, take}
-use Rattle.pir_wire.proofs.Bytes.{seven_bytes}
+use Rattle.frame_headers.proofs.HeaderLaws.{seven_bytes}
 use Rattle.pir_wire.proofs.residues.push_residue.Goals as goal
 
 pub returns : goal.returns

@@ -1,10 +1,12 @@
 use Rattle.std.proofs.Common.{◌≡◌, ◌∙◌, ap, sym, subst, arith, List, ℕ, All, Ok, length, ◌<◌, Some}
 use Rattle.spiral_model.specs.Databases.{IsTable}
-use Rattle.spiral_model.specs.Frames.{IsOne, database_message}
-use Rattle.spiral_model.specs.declared.frame_error.FrameError.TheVariants.{Short, Extra}
-use Rattle.record_store.specs.Decoding.{ReadsNumbers, refusal_by, front_outcome}
+use Rattle.spiral_frames.specs.Frames.{IsOne, database_message}
+use Rattle.spiral_frames.specs.FrameChecks.{front_outcome}
+use Rattle.frame_headers.specs.declared.kind.FrameKind.TheVariants.{Database}
+use Rattle.frame_headers.specs.declared.frame_error.FrameError.TheVariants.{Short, Extra}
+use Rattle.record_store.specs.Decoding.{ReadsNumbers, refusal_by}
 use Rattle.std.proofs.lemmas.Result.{err_from_is_err_and}
-use Rattle.spiral_model.proofs.Outcomes.{set_in-named}
+use Rattle.frame_headers.proofs.Outcomes.{set_in-named}
 use Rattle.record_store.proofs.ReadingDatabases.{refused_front}
 use Rattle.record_store.proofs.Wholes.{table_of, frame_len_of, decode_short, decode_longer, decode_table, decode_one, decode_passes}
 use Rattle.record_store.proofs.decoding.decode.Goals as goal
@@ -47,7 +49,7 @@ returns-clause-decodes c =
     let read : ReadsNumbers x (front_outcome x) (Ok front) = subst (λ (y : List ℕ). ReadsNumbers y (front_outcome y) (Ok front)) c.deref.ensures.value c.in_ok-front.ensures.reads in
     let below : All (λ b. b < 256) x = subst (λ (y : List ℕ). All (λ b. b < 256) y) c.deref.ensures.value c.in_ok-front.ensures.are_bytes in
     let whole : length x ≡ frame_len_of front = omega (arith, c.len.ensures, c.len-2.ensures, c.args.bytes.ok, c.frame_len-frame_len.ensures) in (
-      subst (λ (records : List ℕ). IsOne 6 x (database_message (table_of front records))) (sym c.without_front.ensures) (decode_one x front read.0 read.1 whole below),
+      subst (λ (records : List ℕ). IsOne Database x (database_message (table_of front records))) (sym c.without_front.ensures) (decode_one x front read.0 read.1 whole below),
       decode_passes x front read.0 read.1 whole below,
     )
 

@@ -1,7 +1,7 @@
 use Rattle.std.proofs.Common.{◌∙◌, ap, sym, subst, length, Some}
-use Rattle.spiral_model.specs.Checks.{Outcome, header_checks, checked}
-use Rattle.spiral_model.proofs.HeaderReading.{header_read_is}
-use Rattle.spiral_model.proofs.Outcomes.{more_ends, refused_refuses, whole_passes, set_in-named}
+use Rattle.spiral_frames.specs.Checks.{Outcome, header_checks, checked}
+use Rattle.frame_headers.proofs.HeaderReading.{header_read_is}
+use Rattle.frame_headers.proofs.Outcomes.{more_ends, refused_refuses, whole_passes, set_in-named}
 use Rattle.record_store.specs.Decoding.{ReadsNumbers}
 use Rattle.record_store.proofs.Numbers.{header_ends, header_refuses, header_passes, passes_named}
 use Rattle.record_store.proofs.decoding.read_numbers.Goals as goal

@@ -2,8 +2,9 @@ use Rattle.std.proofs.Common.{◌≡◌, ◌∙◌, ap, subst, ℕ, List, All, �
 use Rattle.std.proofs.lemmas.Result.{err_from_is_err_and}
 use Rattle.pir_io.specs.Files.{content_of}
 use Rattle.pir_io.proofs.Kept.{same_content, still_told, then_only}
-use Rattle.spiral_model.specs.Frames.{database_message}
-use Rattle.record_store.specs.Decoding.{ReadsNumbers, front_outcome, refusal_by}
+use Rattle.spiral_frames.specs.Frames.{database_message}
+use Rattle.spiral_frames.specs.FrameChecks.{front_outcome}
+use Rattle.record_store.specs.Decoding.{ReadsNumbers, refusal_by}
 use Rattle.record_store.proofs.ReadingDatabases.{refused_early, refused_late, read_one, read_refused}
 use Rattle.record_store.proofs.storing.read_db.Goals as goal
 

@@ -1,7 +1,8 @@
 use Rattle.std.proofs.Common.{◌≡◌, List, [], ℕ, length, ◌∙◌, ap}
 use Rattle.negacyclic.specs.Ring.{ring_sub, ring_mul}
 use Rattle.spiral_model.specs.Sets.{q}
-use Rattle.spiral_model.specs.Ciphertexts.{row_of, phase}
+use Rattle.spiral_model.specs.Words.{row_of}
+use Rattle.spiral_model.specs.Ciphertexts.{phase}
 use Rattle.regev_code.proofs.cipher.phase.Goals as goal
 
 pub returns : goal.returns

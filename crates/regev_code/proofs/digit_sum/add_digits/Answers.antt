@@ -9,8 +9,8 @@ loop-k-init c =
 
 pub loop-k-preserved : goal.loop-k-preserved
 loop-k-preserved c =
-    adds_digits-more c.args.ring.now c.args.w c.loop-k.k c.args.x.now c.coeffs.result.now c.digits_into.new.out c.args.key.now c.index-key-k.result c.args.sum.now c.loop-k.sum
-    c.add_product.new.self c.loop-k.poly c.loop-k.form c.load_digit.new.poly c.load_digit.new.form c.loop-k.invariant c.requires.x (omega arith) c.coeffs.ensures.value
+    adds_digits-more c.args.ring.now c.args.w c.loop-k.k c.args.x.now c.coeffs_into.new.out c.digits_into.new.out c.args.key.now c.index-key-k.result c.args.sum.now c.loop-k.sum
+    c.add_product.new.self c.loop-k.poly c.loop-k.form c.load_digit.new.poly c.load_digit.new.form c.loop-k.invariant c.requires.x (omega arith) c.coeffs_into.ensures.value
     c.digits_into.ensures.value c.load_digit.ensures.value
     (get_or_read c.args.key.now c.loop-k.k c.index-key-k.result (omega arith) c.index-key-k.is [])
     c.add_product.ensures c.load_digit.ensures.poly c.load_digit.ensures.form

@@ -2,7 +2,7 @@ use Rattle.std.proofs.Common.{◌≡◌, pos, ◌<ℤ◌, ◌≤ℤ◌, unsigned
 use Rattle.std.proofs.lemmas.Int.{ints}
 use Rattle.spiral_model.specs.Sets.{q}
 use Rattle.ring_poly.proofs.Modulus.{q_is}
-use Rattle.regev_code.proofs.Samples.{residue_negative, residue_plain}
+use Rattle.negacyclic.proofs.Signed.{residue_negative, residue_plain}
 use Rattle.regev_code.proofs.sampling.residue_of.Goals as goal
 
 pub returns-then-z-lt0-clause-value : goal.returns-then-z-lt0-clause-value

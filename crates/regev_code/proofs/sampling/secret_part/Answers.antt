@@ -1,6 +1,6 @@
 use Rattle.std.proofs.Common.{arith}
 use Rattle.std.proofs.lemmas.List.Elements.{All-same}
-use Rattle.spiral_model.specs.Switched.{IsTernary}
+use Rattle.spiral_model.specs.Replies.{IsTernary}
 use Rattle.regev_code.proofs.Samples.{secret_all, secret_numbers-ternary}
 use Rattle.regev_code.proofs.sampling.secret_part.Goals as goal
 

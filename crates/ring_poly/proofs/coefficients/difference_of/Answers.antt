@@ -1,6 +1,6 @@
 use Rattle.std.proofs.Common.{arith}
-use Rattle.spiral_model.specs.Sets.{q}
-use Rattle.ring_poly.proofs.Reduction.{residue_difference_low, residue_difference_high}
+use Rattle.spiral_sets.specs.Sets.{q}
+use Rattle.negacyclic.proofs.Reduction.{residue_difference_low, residue_difference_high}
 use Rattle.ring_poly.proofs.Modulus.{q_is}
 use Rattle.ring_poly.proofs.coefficients.difference_of.Goals as goal
 

@@ -1,6 +1,6 @@
 use Rattle.std.proofs.Common.{◌-◌, ◌/◌, ◌<◌, ◌≤◌, sym, arith}
-use Rattle.spiral_model.specs.Sets.{q}
-use Rattle.ring_poly.proofs.Reduction.{centred_low, centred_high}
+use Rattle.spiral_sets.specs.Sets.{q}
+use Rattle.negacyclic.proofs.Reduction.{centred_low, centred_high}
 use Rattle.ring_poly.proofs.Modulus.{q_is}
 use Rattle.ring_poly.proofs.coefficients.magnitude.Goals as goal
 

@@ -1,6 +1,6 @@
 use Rattle.std.proofs.Common.{sym, arith}
-use Rattle.spiral_model.specs.Sets.{q}
-use Rattle.ring_poly.proofs.Reduction.{residue_negated, residue_negated_zero}
+use Rattle.spiral_sets.specs.Sets.{q}
+use Rattle.negacyclic.proofs.Reduction.{residue_negated, residue_negated_zero}
 use Rattle.ring_poly.proofs.Modulus.{q_is, q_some}
 use Rattle.ring_poly.proofs.coefficients.negated.Goals as goal
 

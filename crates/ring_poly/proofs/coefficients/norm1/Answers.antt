@@ -1,6 +1,6 @@
 use Rattle.std.proofs.Common.{sym, arith}
-use Rattle.spiral_model.specs.Sets.{q}
-use Rattle.ring_poly.proofs.Reduction.{norm_none, norm_more}
+use Rattle.spiral_sets.specs.Sets.{q}
+use Rattle.negacyclic.proofs.Reduction.{norm_none, norm_more}
 use Rattle.ring_poly.proofs.coefficients.norm1.Goals as goal
 
 pub loop-i-init : goal.loop-i-init

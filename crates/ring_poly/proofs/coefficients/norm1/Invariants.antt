@@ -1,6 +1,6 @@
 use Rattle.std.proofs.Common.{◌≡◌, ◌*◌, ◌^◌, ◌≤◌, take}
 use Rattle.negacyclic.specs.Residues.{norm}
-use Rattle.spiral_model.specs.Sets.{q}
+use Rattle.spiral_sets.specs.Sets.{q}
 use Rattle.ring_poly.proofs.coefficients.norm1.Given as goal
 
 abbrev pub invariant-loop-i : goal.invariant-loop-i

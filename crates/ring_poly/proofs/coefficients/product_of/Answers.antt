@@ -1,6 +1,6 @@
 use Rattle.std.proofs.Common.{◌≡◌, sym, ◌∙◌}
-use Rattle.spiral_model.specs.Sets.{q}
-use Rattle.ring_poly.proofs.Reduction.{residue_product}
+use Rattle.spiral_sets.specs.Sets.{q}
+use Rattle.negacyclic.proofs.Reduction.{residue_product}
 use Rattle.ring_poly.proofs.Modulus.{q_is}
 use Rattle.ring_poly.proofs.coefficients.product_of.Goals as goal
 

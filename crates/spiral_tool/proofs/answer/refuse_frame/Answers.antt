@@ -1,5 +1,5 @@
 use Rattle.std.proofs.Common.{◌≡◌, ◌∙◌, ap, subst}
-use Rattle.spiral_model.specs.Refusals.{code_of, place_of}
+use Rattle.spiral_frames.specs.Refusals.{code_of, place_of}
 use Rattle.spiral_tool.specs.Texts.{bad_frame_line}
 use Rattle.spiral_tool.specs.Puts.{Refused}
 use Rattle.spiral_tool.specs.declared.status.Status.TheVariants.{BadFrame}

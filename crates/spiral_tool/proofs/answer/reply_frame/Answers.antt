@@ -1,7 +1,7 @@
 use Rattle.std.proofs.Common.{◌≡◌, ◌∙◌, ap, sym, subst}
 use Rattle.spiral_model.specs.Sets.{IsBuilt}
-use Rattle.spiral_model.specs.Switched.{SwitchedReply}
-use Rattle.spiral_model.specs.Answering.{answer_of}
+use Rattle.spiral_model.specs.Replies.{SwitchedReply}
+use Rattle.spiral_tool.specs.Answer.{answered}
 use Rattle.pir_server.specs.Served.{Served}
 use Rattle.spiral_tool.proofs.Answering.{answer_set, reply_spelled}
 use Rattle.spiral_tool.proofs.answer.reply_frame.Goals as goal
@@ -15,6 +15,6 @@ encode_reply-requires g c =
 
 pub returns : goal.returns
 returns g c =
-    let answer_is : c.in_ok-reply.reply ≡ answer_of c.args.db c.args.query.now =
-    c.in_ok-reply.ensures.reply ∙ ap (λ (server : Served). answer_of server.table c.args.query.now) c.in_ok-server.ensures in
+    let answer_is : c.in_ok-reply.reply ≡ answered c.args.db c.args.query.now =
+    c.in_ok-reply.ensures.reply ∙ ap (λ (server : Served). answered server.table c.args.query.now) c.in_ok-server.ensures in
     reply_spelled _ c.encode_reply.result c.in_ok-reply.reply c.args.db c.args.query.now answer_is c.encode_reply.ensures

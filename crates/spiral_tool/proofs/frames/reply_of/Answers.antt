@@ -1,10 +1,10 @@
 use Rattle.std.proofs.Common.{ℕ, List, subst, sym}
 use Rattle.std.proofs.lemmas.List.{take_rest}
-use Rattle.std.proofs.lemmas.Option.{MatchOption-at_some}
-use Rattle.spiral_tool.specs.declared.header.Kind.TheVariants.{Reply}
+use Rattle.std.proofs.lemmas.Option.{MatchOption-at_some, MatchOption-at_none}
+use Rattle.frame_headers.specs.declared.kind.FrameKind.TheVariants.{Reply}
 use Rattle.spiral_tool.specs.Bodies.{IsReplyBody}
-use Rattle.spiral_tool.specs.Headers.{BeginsWith}
-use Rattle.spiral_tool.proofs.WholeFrames.{found_then, none_then, reply_of_body, body_of_reply}
+use Rattle.spiral_tool.specs.Headers.{BeginsWith, BeginsWithNone}
+use Rattle.spiral_tool.proofs.WholeFrames.{found_then, none_then, reply_of_body, body_of_reply, no_reply}
 use Rattle.spiral_tool.proofs.frames.reply_of.Goals as goal
 
 pub returns-in-Some-clause-found : goal.returns-in-Some-clause-found
@@ -24,3 +24,8 @@ returns-in-Some-clause-none c =
     let begins : BeginsWith Reply bytes set start = MatchOption-at_some _ _ (set, start) c.in-Some.is c.in_ok-set.ensures.found in
     none_then c.reply_from_body.result c.reply_from_body.ensures.none
     (λ none reply is. none reply (subst (λ (body : List ℕ). IsReplyBody set body reply) (sym (take_rest bytes start)) (body_of_reply bytes set start reply begins is)))
+
+pub returns-in-None-clause-none : goal.returns-in-None-clause-none
+returns-in-None-clause-none c =
+    let none : BeginsWithNone Reply c.args.bytes.now = MatchOption-at_none _ _ c.in-None.is c.in_ok-set.ensures.none in
+    no_reply c.args.bytes.now none

@@ -1,12 +1,13 @@
 use Rattle.std.proofs.Common.{arith, ap, length}
-use Rattle.spiral_model.proofs.FrameLaws.{length-header, name-most}
-use Rattle.spiral_tool.specs.Headers.{kind_code, body_len_of}
+use Rattle.frame_headers.proofs.HeaderLaws.{length-header}
+use Rattle.spiral_sets.proofs.SetNames.{name-most}
+use Rattle.spiral_frames.specs.Kinds.{code_of_kind, body_len_of}
 use Rattle.spiral_tool.proofs.Headers.{body_len-most}
 use Rattle.spiral_tool.proofs.header.frame_len.Goals as goal
 
 pub returns-clause-value : goal.returns-clause-value
 returns-clause-value c =
-    omega (arith, ap length c.name.ensures, length-header (kind_code c.args.kind) c.args.set.now (body_len_of c.args.kind c.args.set.now), c.body_len.ensures)
+    omega (arith, ap length c.name.ensures, length-header (code_of_kind c.args.kind) c.args.set.now (body_len_of c.args.kind c.args.set.now), c.body_len.ensures)
 
 pub returns-clause-most : goal.returns-clause-most
 returns-clause-most c =

@@ -1,5 +1,5 @@
 use Rattle.std.proofs.Common.{◌∙◌}
-use Rattle.spiral_tool.proofs.Kept.{then_only}
+use Rattle.pir_io.proofs.Kept.{then_only}
 use Rattle.spiral_tool.proofs.Opening.{without_state, without_reply, of_two_sets, without_record, with_record, both_in}
 use Rattle.spiral_tool.proofs.open.open_files.Goals as goal
 

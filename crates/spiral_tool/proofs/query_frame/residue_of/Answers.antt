@@ -1,15 +1,18 @@
-use Rattle.std.proofs.Common.{arith}
+use Rattle.std.proofs.Common.{◌≡◌, arith}
+use Rattle.negacyclic.specs.Digits.{number_of}
 use Rattle.bit_packing.proofs.Windows.{bytes_below}
 use Rattle.ring_poly.proofs.Modulus.{q_is}
-use Rattle.spiral_tool.proofs.Queries.{residue_number, residue_spelled}
+use Rattle.spiral_tool.proofs.Queries.{seven_read, residue_number, residue_spelled}
 use Rattle.spiral_tool.proofs.query_frame.residue_of.Goals as goal
 
 pub returns-then-number-ge-Q-clause-none : goal.returns-then-number-ge-Q-clause-none
 returns-then-number-ge-Q-clause-none c =
-    λ x below spelled. omega (arith, q_is, residue_number x c.args.bytes.now below spelled, c.number_at-number.ensures)
+    let read : c.number_at-number.result ≡ number_of 256 c.args.bytes.now =
+    seven_read c.args.bytes.now c.copy_from_slice.new.self c.number_at-number.result c.requires c.copy_from_slice.ensures.after c.number_at-number.ensures in
+    λ x below spelled. omega (arith, q_is, residue_number x c.args.bytes.now below spelled, read)
 
 pub returns-clause-found : goal.returns-clause-found
-returns-clause-found c = (
-  omega (arith, q_is),
-  residue_spelled c.number_at-number.result c.args.bytes.now c.requires (bytes_below c.args.bytes.now c.type_inv.bytes) c.number_at-number.ensures,
-)
+returns-clause-found c =
+    let read : c.number_at-number.result ≡ number_of 256 c.args.bytes.now =
+    seven_read c.args.bytes.now c.copy_from_slice.new.self c.number_at-number.result c.requires c.copy_from_slice.ensures.after c.number_at-number.ensures in
+    (omega (arith, q_is), residue_spelled c.number_at-number.result c.args.bytes.now c.requires (bytes_below c.args.bytes.now c.type_inv.bytes) read)

@@ -1,9 +1,8 @@
 use Rattle.std.proofs.Common.{◌≡◌, ◌+◌, ◌-◌, ◌*◌, ◌<◌, ℕ, List, take, drop, sym, ◌∙◌, arith}
 use Rattle.std.proofs.lemmas.Option.{MatchOption-at_none, MatchOption-at_some}
 use Rattle.spiral_model.specs.Sets.{q}
-use Rattle.spiral_model.specs.Frames.{number}
-use Rattle.spiral_tool.proofs.Polys.{piece_is}
-use Rattle.spiral_tool.proofs.Pieces.{spelled_more, none_spelled}
+use Rattle.spiral_frames.specs.Headers.{number}
+use Rattle.spiral_tool.proofs.Pieces.{piece_is, spelled_more, none_spelled}
 use Rattle.spiral_tool.proofs.Queries.{length-residue}
 use Rattle.spiral_tool.proofs.query_frame.residues_of.Goals as goal
 

@@ -2,7 +2,7 @@ use Rattle.std.proofs.Common.{arith, ℤ, ◌++◌, ◌∷◌, [], ap, ◌∙◌
 use Rattle.std.proofs.lemmas.Int.{ints, to_z-of_z}
 use mir.Val.{SFits}
 use mir.Syntax.{w8}
-use Rattle.spiral_tool.proofs.Bodies.{too_large, secret_more}
+use Rattle.spiral_tool.proofs.States.{too_large, secret_more}
 use Rattle.spiral_tool.proofs.state_frame.secret_of.Goals as goal
 
 pub returns-then-byte-gt2-clause-none : goal.returns-then-byte-gt2-clause-none

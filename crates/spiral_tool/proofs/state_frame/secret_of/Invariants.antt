@@ -1,6 +1,6 @@
 use Rattle.std.proofs.Common.{◌≡◌, take, map, All}
-use Rattle.spiral_model.specs.Switched.{IsTernary}
-use Rattle.spiral_model.specs.Frames.{secret_byte}
+use Rattle.spiral_model.specs.Replies.{IsTernary}
+use Rattle.spiral_frames.specs.Frames.{secret_byte}
 use Rattle.spiral_tool.proofs.state_frame.secret_of.Given as goal
 
 abbrev pub invariant-loop-byte : goal.invariant-loop-byte

@@ -4,12 +4,12 @@ use Rattle.std.proofs.lemmas.Option.{MatchOption-at_none, MatchOption-at_some}
 use Rattle.spiral_model.specs.Sets.{max_records}
 use Rattle.bit_packing.proofs.Windows.{bytes_below}
 use Rattle.spiral_model.specs.Counts.{state_len}
-use Rattle.spiral_tool.proofs.Bodies.{length_of_state, index_below, secret_of_state, state_from_parts}
+use Rattle.spiral_tool.proofs.States.{length_of_state, index_below, secret_of_state, state_from_parts}
 use Rattle.spiral_tool.proofs.state_frame.state_from_body.Goals as goal
 
-pub returns-then-body-body_len-clause-none : goal.returns-then-body-body_len-clause-none
-returns-then-body-body_len-clause-none c =
-    λ state is. omega (arith, c.if-body-body_len.true, length_of_state c.args.set.now c.args.body.now state is, c.body_len.ensures)
+pub returns-then-body-state_len-clause-none : goal.returns-then-body-state_len-clause-none
+returns-then-body-state_len-clause-none c =
+    λ state is. omega (arith, c.if-body-state_len.true, length_of_state c.args.set.now c.args.body.now state is, c.state_len.ensures)
 
 pub returns-then-index-max_records-clause-none : goal.returns-then-index-max_records-clause-none
 returns-then-index-max_records-clause-none c =
@@ -24,7 +24,7 @@ returns-in_default-clause-none c =
 pub returns-clause-found : goal.returns-clause-found
 returns-clause-found c =
     let body : List ℕ = c.args.body.now in
-    let len : length body ≡ state_len c.args.set.now = omega (arith, c.if-body-body_len.false, c.body_len.ensures) in
+    let len : length body ≡ state_len c.args.set.now = omega (arith, c.if-body-state_len.false, c.state_len.ensures) in
     let low : c.number_at-index.result < max_records c.args.set.now = omega (arith, c.if-index-max_records.false, c.max_records.ensures) in
     state_from_parts c.args.set.now body c.number_at-index.result c.in-Some.secret.items c.requires (bytes_below body c.type_inv.body) len
     c.number_at-index.ensures low

@@ -1,6 +1,6 @@
 use Rattle.std.proofs.Common.{◌≡◌, ◌∙◌, ◌<◌, ◌+◌, [], length, sym, ap, arith}
-use Rattle.spiral_model.specs.Sets.{rows}
-use Rattle.spiral_model.specs.Ciphertexts.{row_of}
+use Rattle.spiral_sets.specs.Sets.{rows}
+use Rattle.spiral_model.specs.Words.{row_of}
 use Rattle.spiral_model.specs.Gadgets.{cipher_sub}
 use Rattle.gsw_code.proofs.Products.{multiplies-none, multiplies-more, multiplies-all, difference-shape, difference_row, length-cipher_sub}
 use Rattle.gsw_code.proofs.gsw.Gsw.multiply_difference.Goals as goal

@@ -13,8 +13,9 @@ returns-clause-reads c =
       tells = search rules;
       is_open = search rules;
       cause = search rules;
+      buffer = search rules;
       count = omega (arith, c.next_piece-count.ensures.count);
-      took = λ _. took;
+      took = λ _. rw c.requires took;
       ended = search rules;
       err = search rules;
       others = search rules;
@@ -24,4 +25,4 @@ pub returns-clause-exact : goal.returns-clause-exact
 returns-clause-exact c =
     let net = c.args.self.now in
     let n = c.next_piece-count.result in
-    rw (left_is net) (simp length-drop c.next_piece-count.ensures.count, c.next_piece-count.ensures.bytes)
+    rw (left_is net c.requires) (simp length-drop c.next_piece-count.ensures.count, c.next_piece-count.ensures.bytes)

@@ -1,43 +1,53 @@
-use Rattle.std.proofs.Common.{◌≡◌, length, false, ◌∙◌, sym, ap, arith}
+use Rattle.std.proofs.Common.{◌≡◌, List, Option, length, false, ◌∙◌, ap, arith}
+use Rattle.std.specs.Option.{option_copied}
 use Rattle.std.proofs.lemmas.List.{take_at}
-use Rattle.spiral_model.specs.declared.param_set.ParamSet.{ParamSet}
+use Rattle.spiral_sets.specs.declared.param_set.ParamSet.{ParamSet}
+use Rattle.spiral_model.specs.Words.{Cipher}
 use Rattle.spiral_model.specs.Databases.{RecordTable}
-use Rattle.spiral_model.specs.Answering.{answer_of}
+use Rattle.spiral_model.specs.Keys.{SetKeys}
+use Rattle.spiral_model.specs.Answering.{Ready, answer_of, ready_of}
 use Rattle.pir_server.specs.Served.{Served}
-use Rattle.pir_server.proofs.Serving.{columns_shapes, kept, answered}
+use Rattle.pir_server.proofs.Serving.{sets_kept, columns_shapes, kept, answered}
 use Rattle.pir_server.proofs.server.Server.answer.Goals as goal
 
-pub reply_of-requires-clause-shapes : goal.reply_of-requires-clause-shapes
-reply_of-requires-clause-shapes g c =
-    let s : ParamSet = c.set_of-set.result in
-    let set_is : s ≡ c.self.inside.db.set = c.set_of-set.ensures in
+pub work_out-requires-clause-sets : goal.work_out-requires-clause-sets
+work_out-requires-clause-sets g c κs within =
+    let s : ParamSet = c.set-set.result in
+    let set_is : s ≡ c.self.inside.db.set = c.set-set.ensures.value in
+    let room_is : c.ready.new._scratch ≡ c.index_mut-room.result.now = c.in_ok-ready.ensures.scratch in
+    sets_kept s c.self.inside.db.set c.self.inside.scratch.items c.deref_mut-2.result.now c.index_mut-room.result.now c.ready.new._scratch
+    set_is c.self.invariant.sets c.self.invariant.some c.index_mut-room.ensures.value room_is c.deref_mut-2.ensures.value
+
+pub fill_reply-requires-clause-shapes : goal.fill_reply-requires-clause-shapes
+fill_reply-requires-clause-shapes g c =
+    let s : ParamSet = c.set-set.result in
+    let set_is : s ≡ c.self.inside.db.set = c.set-set.ensures.value in
     let plain : s.pack ≡ false = ap (λ (t : ParamSet). t.pack) set_is ∙ c.self.invariant.built.1 in
-    let degree : c.self.inside.ring ≡ s.degree = c.self.invariant.degree ∙ sym (ap (λ (t : ParamSet). t.degree) set_is) in
-    let count : length c.fold.new.ciphers ≡ c.self.inside.outputs.len = omega (arith, c.fold.auto.ciphers, c.deref_mut-3.ensures.len) in
-    columns_shapes s c.self.inside.ring c.deref-3.result.now c.fold.new.ciphers plain degree
-    (c.deref-3.ensures.value ∙ take_at c.fold.new.ciphers _ c.self.inside.outputs.len count) c.fold.ensures.shapes
+    let count : length c.work_out.new.outputs ≡ c.self.inside.outputs.len = omega (arith, c.work_out.auto.outputs, c.deref_mut.ensures.len) in
+    columns_shapes s c.deref.result.now c.work_out.new.outputs plain
+    (c.deref.ensures.value ∙ take_at c.work_out.new.outputs _ c.self.inside.outputs.len count) c.work_out.ensures.shapes
 
 pub invariant_of-self-2 : goal.invariant_of-self-2
 invariant_of-self-2 g c =
-    let s : ParamSet = c.set_of-set.result in
-    let set_is : s ≡ c.self.inside.db.set = c.set_of-set.ensures in
-    let workers : length c.fold.new.scratch ≡ c.self.inside.scratch.len = omega (arith, c.fold.auto.scratch, c.deref_mut-4.ensures.len) in
-    let count : length c.fold.new.ciphers ≡ c.self.inside.outputs.len = omega (arith, c.fold.auto.ciphers, c.deref_mut-3.ensures.len) in
-    kept c.self.inside.db c.self.inside.prepared c.self.inside.ring s c.self.inside.scratch.items c.self.inside.outputs.items _ c.fold.new.scratch _ c.fold.new.ciphers
-    c.self.invariant set_is (take_at c.fold.new.scratch _ c.self.inside.scratch.len workers) (take_at c.fold.new.ciphers _ c.self.inside.outputs.len count)
-    (workers ∙ c.self.inside.scratch.ok.0) (count ∙ c.self.inside.outputs.ok.0) c.fold.ensures.scratch c.fold.ensures.shapes
+    let s : ParamSet = c.set-set.result in
+    let set_is : s ≡ c.self.inside.db.set = c.set-set.ensures.value in
+    let workers : length c.work_out.new.scratch ≡ c.self.inside.scratch.len = omega (arith, c.work_out.auto.scratch, c.deref_mut-2.ensures.len) in
+    let count : length c.work_out.new.outputs ≡ c.self.inside.outputs.len = omega (arith, c.work_out.auto.outputs, c.deref_mut.ensures.len) in
+    kept c.self.inside.db c.self.inside.prepared c.self.inside.ring s c.self.inside.scratch.items c.self.inside.outputs.items _ c.work_out.new.scratch _ c.work_out.new.outputs
+    c.self.invariant set_is (take_at c.work_out.new.scratch _ c.self.inside.scratch.len workers) (take_at c.work_out.new.outputs _ c.self.inside.outputs.len count)
+    (workers ∙ c.self.inside.scratch.ok.0) (count ∙ c.self.inside.outputs.ok.0) c.work_out.ensures.sets c.work_out.ensures.shapes
 
 pub returns-clause-reply : goal.returns-clause-reply
 returns-clause-reply g c =
-    let s : ParamSet = c.set_of-set.result in
-    let set_is : s ≡ c.self.inside.db.set = c.set_of-set.ensures in
+    let s : ParamSet = c.set-set.result in
+    let set_is : s ≡ c.self.inside.db.set = c.set-set.ensures.value in
     let plain : s.pack ≡ false = ap (λ (t : ParamSet). t.pack) set_is ∙ c.self.invariant.built.1 in
     let table : c.self.inside.db ≡ c.args.self.now.table = ap (λ (v : Served). v.table) c.self.view_is in
-    let written : length c.products.new.out ≡ c.self.inside.outputs.len = omega (arith, c.products.auto.out, c.deref_mut.ensures.len) in
-    let count : length c.fold.new.ciphers ≡ c.self.inside.outputs.len = omega (arith, c.fold.auto.ciphers, c.deref_mut-3.ensures.len) in
-    answered c.self.inside.db c.args.query.now s c.in_ok-reply.reply c.reply_of.new.reply c.self.inside.prepared c.deref.result.now c.deref-2.result.now
-    c.products.new.out c.deref_mut-3.result.now c.fold.new.ciphers c.deref-3.result.now set_is plain c.in_ok-reply.ensures c.self.invariant.same
-    (c.deref.ensures.value ∙ c.in_ok-ready.ensures.firsts) (c.deref-2.ensures.value ∙ c.in_ok-ready.ensures.gsws) c.products.ensures.value
-    (c.deref_mut-3.ensures.value ∙ take_at c.products.new.out _ c.self.inside.outputs.len written) c.fold.ensures.value
-    (c.deref-3.ensures.value ∙ take_at c.fold.new.ciphers _ c.self.inside.outputs.len count) c.reply_of.ensures
-    ∙ ap (λ (t : RecordTable). answer_of t c.args.query.now) table
+    let count : length c.work_out.new.outputs ≡ c.self.inside.outputs.len = omega (arith, c.work_out.auto.outputs, c.deref_mut.ensures.len) in
+    let shown : c.deref.result.now ≡ c.work_out.new.outputs = c.deref.ensures.value ∙ take_at c.work_out.new.outputs _ c.self.inside.outputs.len count in
+    let keys : Option SetKeys = option_copied c.args.keys in
+    let ciphers : List Cipher = c.args.query.now.ciphers in
+    answered c.self.inside.db keys c.in_ok-ready.ready s c.in_ok-reply.reply c.fill_reply.new.reply c.self.inside.prepared c.work_out.new.outputs c.deref.result.now
+    set_is plain c.in_ok-reply.ensures c.self.invariant.same c.work_out.ensures.value shown c.fill_reply.ensures
+    ∙ ap (λ (r : Ready). answer_of c.self.inside.db keys r) (c.in_ok-ready.ensures.value ∙ ap (λ (u : ParamSet). ready_of u keys ciphers) set_is)
+    ∙ ap (λ (t : RecordTable). answer_of t keys (ready_of t.set keys ciphers)) table

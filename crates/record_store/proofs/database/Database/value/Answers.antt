@@ -1,6 +1,6 @@
 use Rattle.std.proofs.Common.{◌≡◌, ◌∙◌, ap, sym, subst, ◌<◌, List, ℕ, get_or, ◌+◌, ◌*◌, ◌^◌}
 use Rattle.negacyclic.specs.Digits.{number_of, digit}
-use Rattle.spiral_model.specs.declared.param_set.ParamSet.{ParamSet}
+use Rattle.spiral_sets.specs.declared.param_set.ParamSet.{ParamSet}
 use Rattle.spiral_model.specs.Sets.{p}
 use Rattle.spiral_model.specs.Records.{entry_of, values_of}
 use Rattle.spiral_model.specs.Databases.{RecordTable, IsTable}

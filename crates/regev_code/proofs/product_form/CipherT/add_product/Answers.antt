@@ -1,7 +1,8 @@
 use Rattle.std.proofs.Common.{◌≡◌, sym, subst, length, List, ℕ, arith}
 use Rattle.std.proofs.lemmas.List.Elements.{All-same}
 use Rattle.regev_code.specs.Shapes.{IsCipher}
-use Rattle.regev_code.proofs.Products.{refilled, cipher_kept, with_product-degree}
+use Rattle.negacyclic.proofs.Lists.{refilled}
+use Rattle.regev_code.proofs.Products.{cipher_kept, with_product-degree}
 use Rattle.regev_code.proofs.product_form.CipherT.add_product.Goals as goal
 
 pub invariant_of-self : goal.invariant_of-self

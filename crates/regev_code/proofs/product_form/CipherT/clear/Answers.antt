@@ -1,8 +1,9 @@
 use Rattle.std.proofs.Common.{◌≡◌, ◌∙◌, sym, ap, subst, length, List, ℕ, map, replicate, arith}
 use Rattle.std.specs.List.{range_with_len}
-use Rattle.spiral_model.specs.Ciphertexts.{row_of}
+use Rattle.spiral_model.specs.Words.{row_of}
 use Rattle.regev_code.specs.Shapes.{IsCipher}
-use Rattle.regev_code.proofs.Products.{refilled, cleared_all, cleared_kept}
+use Rattle.negacyclic.proofs.Lists.{refilled}
+use Rattle.regev_code.proofs.Products.{cleared_all, cleared_kept}
 use Rattle.regev_code.proofs.product_form.CipherT.clear.Goals as goal
 
 zeros : (c : goal.After-self-1)

@@ -1,5 +1,7 @@
-use Rattle.ring_poly.proofs.Places.{zeros_residues}
+use Rattle.spiral_sets.specs.Sets.{q}
+use Rattle.negacyclic.proofs.Lengths.{zeros_below}
+use Rattle.ring_poly.proofs.Modulus.{q_some}
 use Rattle.ring_poly.proofs.product.PolyT.zero.Goals as goal
 
 pub invariant_of-result : goal.invariant_of-result
-invariant_of-result c = rw c.in_ok-zeros.ensures (zeros_residues c.args.n)
+invariant_of-result c = rw c.in_ok-zeros.ensures (zeros_below q c.args.n q_some)

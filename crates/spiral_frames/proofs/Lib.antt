@@ -1,0 +1,5 @@
+pub mod FrameLaws
+pub mod Bodies
+pub mod DatabaseFrames
+pub mod SpelledDatabases
+mod Examples

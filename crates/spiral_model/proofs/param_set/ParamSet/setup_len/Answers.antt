@@ -1,5 +1,0 @@
-use Rattle.spiral_model.proofs.EachSet.{setup_len_at}
-use Rattle.spiral_model.proofs.param_set.ParamSet.setup_len.Goals as goal
-
-pub returns : goal.returns
-returns c = setup_len_at c.args.self.now c.requires _

@@ -1,0 +1,3 @@
+pub mod EachSet
+pub mod SetBounds
+pub mod SetNames
