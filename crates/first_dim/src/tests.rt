@@ -136,13 +136,13 @@ fn expect_constants(
     Ok(())
 }
 
+/// The bytes 255 and 128 count as -1 and -128; place 3 has no record.
 #[test]
 fn columns_of_a_set_that_does_not_pack(rt: HostRuntime) -> Result<(), Fail> {
     let alloc = rt.alloc();
     let set = set_at(EDGE);
     assert!(rt; set.degree == 256 && set.n == 2 && set.nu1 == 1 && set.nu2 == 1 && !set.pack);
     let ring = Ring::new(alloc, 256)?;
-    // 255 and 128 count as -1 and -128; place 3 has no record
     let db = database(
         alloc,
         &set,

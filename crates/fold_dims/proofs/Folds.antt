@@ -54,15 +54,6 @@ pub record Folds (N w count : ℕ) (gsws : List Gsw) (old : List Cipher) (i size
   pub halved : size ≡ 2 ^ (length gsws - i) * count
   pub so_far : folded N w (drop i gsws) (take size ciphers) ≡ folded N w gsws old
 
--- before the first
-pub folds-none : (N w count : ℕ) (gsws : List Gsw) (old : List Cipher) → length old ≡ 2 ^ length gsws * count → Folds N w count gsws old 0 (length old) old
-folds-none N w count gsws old size =
-    let steps : length gsws ≡ length gsws - 0 = omega arith in
-    record {
-      halved = size ∙ ap (λ (k : ℕ). 2 ^ k * count) steps;
-      so_far = ap (folded N w gsws) (take_all (length old) old (omega arith));
-    }
-
 folded-more : (N w : ℕ) (gsw : Gsw) (gsws : List Gsw) (ciphers : List Cipher) → folded N w gsws (fold_step N w gsw ciphers) ≡ folded N w (gsw ∷ gsws) ciphers
 unfolding folded
 folded-more N w gsw gsws ciphers = refl

@@ -6,19 +6,10 @@ ghost use Rattle.std.specs.List.{range_with_len, flat_map};
 ghost use Rattle.negacyclic.specs.Digits.{digit, digit_poly};
 ghost use Rattle.spiral_sets.specs.Sets.{q, digit_count as digit_count_of};
 
+pub use spiral_sets::digit_count;
+
 #[cfg(test)]
 mod tests;
-
-/// t, how many digits of w bits a residue has: ceil(56 / w), since a residue is below 2^56.
-pub fn digit_count(w: u32) -> u32
-    requires some { 1 ≤ w }
-    requires most { w ≤ 56 }
-    ensures value { result ≡ digit_count_of w }
-    ensures some { 1 ≤ result }
-    ensures most { result ≤ 56 }
-{
-    (56 + w - 1) / w
-}
 
 /// Digit k of x: floor(x / 2^(w k)) mod 2^w. Since w k is at most 55, the shift is in range.
 fn digit_of(x: u64, w: u32, k: u32) -> u64

@@ -45,10 +45,6 @@ put_poly-body reply e a =
     row_of_body (e / reply.set.n) masked put
     ∙ ap (λ (k : ℕ). let r : SwitchedReply = record reply { body = slice_set reply.body k a } in r) (entry_place reply.set e)
 
--- and the moduli
-pub row_modulus-mask : (set : ParamSet) → row_modulus set 0 ≡ q2 set
-row_modulus-mask set = refl
-
 pub row_modulus-body : (set : ParamSet) (r : ℕ) → row_modulus set (r + 1) ≡ q1 set
 row_modulus-body set r = row_of_body r (q2 set) (q1 set)
 

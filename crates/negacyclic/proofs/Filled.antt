@@ -97,6 +97,36 @@ filled_with_kept P f old i xs before so_far k d h =
       | inr past ↦ subst P (sym (so_far.filled.rest k d past)) (before k d (omega (arith, so_far.filled.count)))
     ]
 
+-- ---- a list of a record, place by place
+
+-- `part` reads a list of a record, and `with` replaces it.
+pub record IsPart {R A : Type 0} (part : R → List A) (with : R → List A → R) : Type 0 where
+  pub kept : (r : R) → r ≡ with r (part r)
+  pub read : (r : R) (xs : List A) → part (with r xs) ≡ xs
+  pub again : (r : R) (xs ys : List A) → with (with r xs) ys ≡ with r ys
+
+-- The list's places below i hold f, and all else is as before.
+pub record FilledPart {R A : Type 0} (part : R → List A) (with : R → List A → R) (f : ℕ → A) (old : R) (i : ℕ) (new : R) : Type 0 where
+  pub others : new ≡ with old (part new)
+  pub filled : Filled f (part old) i (part new)
+
+module _ {R A : Type 0} (part : R → List A) (with : R → List A → R) (is : IsPart part with) (f : ℕ → A) (old : R) where
+  pub filled_part_none : FilledPart part with f old 0 old
+  filled_part_none = record { others = is.kept old; filled = filled_none f (part old) }
+
+  pub filled_part_more : (mid new : R) (i : ℕ) (v : A) → i < length (part old) → new ≡ with mid (set (part mid) i v) → v ≡ f i → FilledPart part with f old i mid
+      → FilledPart part with f old (i + 1) new
+  filled_part_more mid new i v within put value so_far =
+      let inside : i < length (part mid) = omega (arith, so_far.filled.count) in
+      let now : part new ≡ set (part mid) i v = ap part put ∙ is.read mid (set (part mid) i v) in
+      record {
+        others = put ∙ ap (λ (r : R). with r (set (part mid) i v)) so_far.others ∙ is.again old (part mid) (set (part mid) i v) ∙ ap (with old) (sym now);
+        filled = subst (Filled f (part old) (i + 1)) (sym now) (filled_more f (part old) i (part mid) v inside so_far.filled value);
+      }
+
+  pub filled_part_all : (new : R) (n i : ℕ) → length (part old) ≡ n → n ≤ i → FilledPart part with f old i new → new ≡ with old (map f (range_with_len 0 n))
+  filled_part_all new n i size past so_far = so_far.others ∙ ap (with old) (filled_count f (part old) n i (part new) size past so_far.filled)
+
 -- ---- lists of residues
 
 -- all places: the list of residues of f

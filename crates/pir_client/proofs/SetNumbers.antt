@@ -10,10 +10,6 @@ use Rattle.spiral_model.specs.Dealing.{secret_polys, row_secrets, query_words, q
 parts-words : (a b T : ℕ) → (a + b) * T ≡ a * T + b * T
 parts-words a b T = omega arith
 
--- a set that doesn't pack has a row for each secret
-pub rows-are : (set : ParamSet) → set.pack ≡ false → rows set ≡ set.n
-rows-are set plain = rw plain refl
-
 -- a set without keys has no setup
 pub setup_words-none : (set : ParamSet) → set.direct ≡ true → set.pack ≡ false → words_of set (setup_ciphertexts set) ≡ 0
 setup_words-none set direct plain = rw (direct, plain) refl
@@ -33,10 +29,6 @@ query_count-words set direct =
     let parts = parts-words (firsts_count set) (set.nu2 * gsw_count set) (words_taken set.degree (rows set)) in
     let words = query_words-are set direct in
     rw (query_count-is set direct) (omega (arith, parts, words))
-
--- the secrets of rows, where the set doesn't pack
-pub row_secrets-plain : (set : ParamSet) (words : List ℕ) → set.pack ≡ false → row_secrets set words ≡ secret_polys set words
-row_secrets-plain set words plain = rw plain refl
 
 -- the query of a set that sends its ciphertexts and doesn't pack
 pub query_of-direct : (set : ParamSet) (words : List ℕ) (index : ℕ) → set.direct ≡ true → set.pack ≡ false

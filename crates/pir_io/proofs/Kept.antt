@@ -25,9 +25,3 @@ then_only old mid new a b = record {
 pub rose_before : (before mid now : ℕ) → before ≤ mid → Rose mid now → Rose before now
 rose_before before mid now le (inl higher) = inl (omega arith)
 rose_before before mid now le (inr last) = inr last
-
--- a count that rose, and never fell afterwards, rose
-pub rose_after : (before mid now : ℕ) → before ≤ mid → Rose before mid → mid ≤ now → Rose before now
-rose_after before mid now first (inl higher) le = inl (omega arith)
-rose_after before mid now first (inr last) le =
-    elim (cases_lt mid now) [ inl higher ↦ inl (omega arith) | inr same ↦ inr (omega arith) ]

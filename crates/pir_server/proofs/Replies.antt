@@ -1,14 +1,11 @@
--- A reply's polynomials, put one after the other.
+-- One polynomial of a reply put: an entry of the body, or one of row 0.
 use Rattle.std.proofs.Common.{◌≡◌, ℕ, ◌+◌, ◌-◌, ◌*◌, ◌/◌, ◌%◌, ◌<◌, ◌≤◌, ◌≢◌, ◌==◌, if◌then◌else◌, Bool, false, List, [], length, get_or, set, map, refl, sym, ◌∙◌, ap, arith, ne_eqb}
 use Rattle.std.proofs.lemmas.List.{get_or_read}
-use Rattle.negacyclic.proofs.Filled.{Filled, filled_none, filled_more, filled_count}
 use Rattle.spiral_sets.specs.declared.param_set.ParamSet.{ParamSet}
 use Rattle.spiral_model.specs.Sets.{entries, q1, q2}
 use Rattle.spiral_model.specs.Words.{Poly, Cipher, row_of, cipher_at}
 use Rattle.spiral_model.specs.Replies.{SwitchedReply, switched, switched_entry, switched_zeroth, switched_body, switched_mask}
 use Rattle.modulus_switch.specs.Places.{place_in_body, put_poly, row_modulus}
-
--- ---- one polynomial
 
 -- row e / n + 1 and column e % n + 1 stand at place e of the body
 place_is : (n e row column : ℕ) → 0 < n → row ≡ e / n + 1 → column ≡ e % n + 1 → (row - 1) * n + (column - 1) ≡ e
@@ -51,55 +48,3 @@ zeroth_put s columns old new c cipher a same within is from put =
     ∙ ap (λ (t : ParamSet). record old { mask = set old.mask (c + 1 - 1) (map (switched (q2 t)) a) }) same
     ∙ ap (λ (x : Poly). record old { mask = set old.mask (c + 1 - 1) (map (switched (q2 s)) x) }) value
     ∙ ap (λ (k : ℕ). record old { mask = set old.mask k (map (switched (q2 s)) (row_of (cipher_at columns c) 0)) }) place
-
--- ---- one after the other
-
--- The entries below e are put, and all else is as before.
-pub record PutsBody (s : ParamSet) (columns : List Cipher) (e : ℕ) (old new : SwitchedReply) : Type 0 where
-  pub others : new ≡ record old { body = new.body }
-  pub filled : Filled (switched_entry s columns) old.body e new.body
-
-pub body-none : (s : ParamSet) (columns : List Cipher) (old : SwitchedReply) → PutsBody s columns 0 old old
-body-none s columns old = record { others = refl; filled = filled_none (switched_entry s columns) old.body }
-
-pub body-more : (s : ParamSet) (columns : List Cipher) (e : ℕ) (old mid new : SwitchedReply) → e < length old.body
-    → new ≡ record mid { body = set mid.body e (switched_entry s columns e) } → PutsBody s columns e old mid → PutsBody s columns (e + 1) old new
-body-more s columns e old mid new within put so_far =
-    let inside : e < length mid.body = omega (arith, so_far.filled.count) in
-    let body : new.body ≡ set mid.body e (switched_entry s columns e) = ap (λ (r : SwitchedReply). r.body) put in
-    record {
-      others = put ∙ ap (λ (r : SwitchedReply). record r { body = set mid.body e (switched_entry s columns e) }) so_far.others
-          ∙ ap (λ (b : List Poly). record old { body = b }) (sym body);
-      filled = rw body (filled_more (switched_entry s columns) old.body e mid.body (switched_entry s columns e) inside so_far.filled refl);
-    }
-
-pub body-all : (s : ParamSet) (columns : List Cipher) (e : ℕ) (old new : SwitchedReply) → length old.body ≡ entries s → entries s ≤ e
-    → PutsBody s columns e old new → new ≡ record old { body = switched_body s columns }
-unfolding switched_body
-body-all s columns e old new count past so_far =
-    so_far.others ∙ ap (λ (b : List Poly). record old { body = b }) (filled_count (switched_entry s columns) old.body (entries s) e new.body count past so_far.filled)
-
--- The polynomials of row 0 below column c are put, and all else is as before.
-pub record PutsMask (s : ParamSet) (columns : List Cipher) (c : ℕ) (old new : SwitchedReply) : Type 0 where
-  pub others : new ≡ record old { mask = new.mask }
-  pub filled : Filled (switched_zeroth s columns) old.mask c new.mask
-
-pub mask-none : (s : ParamSet) (columns : List Cipher) (old : SwitchedReply) → PutsMask s columns 0 old old
-mask-none s columns old = record { others = refl; filled = filled_none (switched_zeroth s columns) old.mask }
-
-pub mask-more : (s : ParamSet) (columns : List Cipher) (c : ℕ) (old mid new : SwitchedReply) → c < length old.mask
-    → new ≡ record mid { mask = set mid.mask c (switched_zeroth s columns c) } → PutsMask s columns c old mid → PutsMask s columns (c + 1) old new
-mask-more s columns c old mid new within put so_far =
-    let inside : c < length mid.mask = omega (arith, so_far.filled.count) in
-    let mask : new.mask ≡ set mid.mask c (switched_zeroth s columns c) = ap (λ (r : SwitchedReply). r.mask) put in
-    record {
-      others = put ∙ ap (λ (r : SwitchedReply). record r { mask = set mid.mask c (switched_zeroth s columns c) }) so_far.others
-          ∙ ap (λ (b : List Poly). record old { mask = b }) (sym mask);
-      filled = rw mask (filled_more (switched_zeroth s columns) old.mask c mid.mask (switched_zeroth s columns c) inside so_far.filled refl);
-    }
-
-pub mask-all : (s : ParamSet) (columns : List Cipher) (c : ℕ) (old new : SwitchedReply) → length old.mask ≡ s.n → s.n ≤ c
-    → PutsMask s columns c old new → new ≡ record old { mask = switched_mask s columns }
-unfolding switched_mask
-mask-all s columns c old new count past so_far =
-    so_far.others ∙ ap (λ (b : List Poly). record old { mask = b }) (filled_count (switched_zeroth s columns) old.mask s.n c new.mask count past so_far.filled)

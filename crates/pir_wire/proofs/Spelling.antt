@@ -49,7 +49,3 @@ polys_more f polys k start before after numbers h is so_far e =
     ∙ flat_map-append f (take k polys) (poly_of polys k ∷ [])
     ∙ ap (λ (t : List ℕ). flat_map f (take k polys) ++ t) (append-nil (f (poly_of polys k)) ∙ ap f (sym is)) in
     e ∙ ap (λ (t : List ℕ). t ++ f numbers) so_far ∙ append_assoc start (flat_map f (take k polys)) (f numbers) ∙ ap (λ (t : List ℕ). start ++ t) (sym next)
-
--- the rows of a query's ciphertexts have N numbers
-pub query_degrees : (query : CipherBody) (n : ℕ) → IsQuery query → n ≡ query.set.degree → All (λ (cipher : Cipher). All (λ (poly : Poly). length poly ≡ n) cipher) query.ciphers
-query_degrees query n is e k d h j row within = ((is.shapes k d h).residues j row within).0 ∙ sym e

@@ -65,14 +65,13 @@ fn numbers_behind(bytes: &[u8], set: ParamSet, body: u64, start: usize) -> Resul
     requires body { body ≡ body_len_in bytes.now }
     ensures { ReadsNumbers bytes.now (checked (database_checks set bytes.now) (length bytes.now)) result }
 {
-    let place = start as u64;
     if bytes.len() < start + 8 {
         return Err(short(bytes));
     }
     let count = number_at(bytes, start);
     if count > set.max_records() {
         return Err(FrameError::TooMany {
-            place,
+            place: start as u64,
             value: count,
         });
     }
@@ -82,13 +81,13 @@ fn numbers_behind(bytes: &[u8], set: ParamSet, body: u64, start: usize) -> Resul
     let length = number_at(bytes, start + 8);
     if length == 0 || length > set.capacity() {
         return Err(FrameError::RecordLength {
-            place: place + 8,
+            place: start as u64 + 8,
             value: length,
         });
     }
     if body != 16 + count * length {
         return Err(FrameError::Ragged {
-            place: place - 8,
+            place: start as u64 - 8,
             value: body,
         });
     }

@@ -43,14 +43,6 @@ drawn-one N m secrets messages cipher from to old new at is pushed = record {
   ciphers = pushed ∙ ap (λ (cs : List Cipher). old ++ cs) (ap (λ (c : Cipher). c ∷ []) is ∙ sym (encrypted_all-one N from.words from.used secrets messages));
 }
 
--- a run of draws that was appended
-pub drawn-all : (N m n : ℕ) (secrets : List Poly) (messages : List (List Poly)) (drawn : List Cipher) (from to : Cursor) (old new : List Cipher) → AreLists m n messages
-    → to ≡ taken from (n * words_taken N m) → drawn ≡ encrypted_all N from.words from.used secrets messages → new ≡ old ++ drawn → Drawn N m secrets messages from to old new
-drawn-all N m n secrets messages drawn from to old new are at is appended = record {
-  words = at ∙ ap (λ (k : ℕ). taken from (k * words_taken N m)) (sym are.many);
-  ciphers = appended ∙ ap (λ (cs : List Cipher). old ++ cs) is;
-}
-
 -- one run after another
 pub drawn-more : (N m n : ℕ) (secrets : List Poly) (xs ys zs : List (List Poly)) (from mid to : Cursor) (old half new : List Cipher)
     → AreLists m n xs → zs ≡ xs ++ ys → Drawn N m secrets xs from mid old half → Drawn N m secrets ys mid to half new → Drawn N m secrets zs from to old new

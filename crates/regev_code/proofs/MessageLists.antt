@@ -11,9 +11,6 @@ pub record AreLists (m n : ℕ) (xs : List (List Poly)) : Type 0 where
   pub many : length xs ≡ n
   pub each : All (λ x. length x ≡ m) xs
 
-pub lists-none : (m : ℕ) → AreLists m 0 []
-lists-none m = record { many = refl; each = All-nil (λ (x : List Poly). length x ≡ m) }
-
 -- further ones behind them
 pub lists-append : (m a b : ℕ) (xs ys : List (List Poly)) → AreLists m a xs → AreLists m b ys → AreLists m (a + b) (xs ++ ys)
 lists-append m a b xs ys first second = record {

@@ -10,9 +10,6 @@ use Rattle.regev_code.specs.Products.{IsWidth}
 pub smallest_width-some : (set : ParamSet) → IsSet set → 1 ≤ smallest_width set
 smallest_width-some = at_least (λ set. smallest_width set) 1 (refl, (refl, (refl, (refl, (refl, (refl, (refl, (refl, (refl, (refl, tt))))))))))
 
-pub width-some : (set : ParamSet) (w : ℕ) → IsSet set → IsWidth set w → 1 ≤ w
-width-some set w is width = omega (arith, smallest_width-some set is, width.least)
-
 -- the digits of a width of the set fit its room
 pub digits_fit : (set : ParamSet) (w N len : ℕ) → IsSet set → IsWidth set w → N ≡ set.degree → len ≡ digit_count (smallest_width set) * set.degree
     → digit_count w * N ≤ len

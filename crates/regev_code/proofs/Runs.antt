@@ -32,11 +32,3 @@ encrypted_all-append N words start secrets m (x ∷ xs) ys all =
     let place : start + words_taken N (length x) + length xs * T ≡ start + length (x ∷ xs) * T = behind start (words_taken N (length x)) T (length xs) next in
     ap (λ (cs : List (List (List ℕ))). encrypted N words start secrets x ∷ cs)
     (step ∙ ap (λ (p : ℕ). encrypted_all N words (start + words_taken N (length x)) secrets xs ++ encrypted_all N words p secrets ys) place)
-
--- One more encryption.
-pub encrypted_all-more : (N : ℕ) (words : List ℕ) (start : ℕ) (secrets : List (List ℕ)) (m : ℕ) (xs : List (List (List ℕ))) (y : List (List ℕ)) → All (λ x. length x ≡ m) xs
-    → encrypted_all N words start secrets (xs ++ y ∷ [])
-    ≡ encrypted_all N words start secrets xs ++ encrypted N words (start + length xs * words_taken N m) secrets y ∷ []
-encrypted_all-more N words start secrets m xs y all =
-    encrypted_all-append N words start secrets m xs (y ∷ []) all
-    ∙ ap (λ (cs : List (List (List ℕ))). encrypted_all N words start secrets xs ++ cs) (encrypted_all-one N words (start + length xs * words_taken N m) secrets y)

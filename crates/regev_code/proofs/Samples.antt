@@ -51,10 +51,6 @@ pub error_poly-below : (N : ℕ) (words : List ℕ) (start : ℕ) → All (λ x.
 unfolding error_poly
 error_poly-below N words start = reduced_below q N (λ k. error_number (get_or words (start + k) 0)) q_some
 
-pub length-error_poly : (N : ℕ) (words : List ℕ) (start : ℕ) → length (error_poly N words start) ≡ N
-unfolding error_poly
-length-error_poly N words start = length-reduced q N (λ k. error_number (get_or words (start + k) 0))
-
 -- The numbers of a secret, from their places; each is -1, 0 or 1.
 pub secret_all : (words : List ℕ) (start : ℕ) (out : List ℤ) (N : ℕ) → length out ≡ N
     → ((k : ℕ) → k < N → get_or out k (pos 0) ≡ secret_number (get_or words (start + k) 0)) → out ≡ secret_numbers N words start

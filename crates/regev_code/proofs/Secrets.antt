@@ -30,9 +30,6 @@ pub rows_from-degree : (N n : ℕ) (words : List ℕ) (start : ℕ) → All (λ 
 rows_from-degree N n words start =
     all_range (λ (s : List ℤ). length s ≡ N) (λ r. secret_numbers N words (start + r * N)) n (λ k h. length-secret_numbers N words _)
 
-pub length-rows_from : (N n : ℕ) (words : List ℕ) (start : ℕ) → length (rows_from N n words start) ≡ n
-length-rows_from N n words start = length-map-range_with_len (λ r. secret_numbers N words (start + r * N)) 0 n
-
 pub secrets_from-degree : (set : ParamSet) (words : List ℕ) (start : ℕ) → OfDegree set.degree (secrets_from set words start)
 secrets_from-degree set words start = record {
   scalar = secret_numbers-some set.degree words start (has_keys set);

@@ -65,12 +65,6 @@ length-query_body query is =
 pub ternary_byte : (z : ℤ) → IsTernary z → secret_byte z ≤ 2
 ternary_byte z h = omega (arith, ints)
 
-pub byte_back : (b : ℕ) → b ≤ 2 → secret_byte (pos b -ℤ pos 1) ≡ b
-byte_back b h = omega (arith, ints)
-
-pub byte_ternary : (b : ℕ) → b ≤ 2 → IsTernary (pos b -ℤ pos 1)
-byte_ternary b h = omega (arith, ints)
-
 pub ternary_bytes : (secret : List ℤ) → All IsTernary secret → All (λ b. b ≤ 2) (map secret_byte secret)
 ternary_bytes secret h = All-map (λ b. b ≤ 2) secret_byte secret (λ k d lt. ternary_byte (get_or secret k d) (h k d lt))
 

@@ -2,6 +2,7 @@
 use Rattle.std.proofs.Common.{◌≡◌, ℕ, List, [], ◌∷◌, ◌++◌, ◌^◌, take, drop, get_or, refl, true, false, Some, None}
 use Rattle.negacyclic.specs.Digits.{digit, digits, number_of}
 use Rattle.spiral_sets.specs.declared.param_set.ParamSet.{ParamSet}
+use Rattle.spiral_sets.proofs.SampleSet.{sample, edge}
 use Rattle.spiral_sets.specs.declared.sets.TheConstants.{SETS}
 use Rattle.spiral_sets.specs.Sets.{q}
 use Rattle.frame_headers.specs.declared.frame_error.FrameError.TheVariants.{Short, Magic, Kind, UnknownSet, Length, Residue, RecordLength, TooMany, Ragged, Extra}
@@ -10,28 +11,6 @@ use Rattle.frame_headers.specs.Checks.{checked, passes, refuses, ends_before, se
 use Rattle.spiral_model.specs.Databases.{RecordTable}
 use Rattle.spiral_frames.specs.Frames.{cipher_bytes, refuse_body, database_body, frame_of, setup_message, refuse_message, database_message}
 use Rattle.spiral_frames.specs.FrameChecks.{residue_checks, reply_checks, state_checks, database_checks, database_refusal, frame_checks, front, more, wrong, whole, one_refusal}
-
--- a set of the table
-abbrev none : ParamSet
-none = record {
-  id = 0;
-  direct = true;
-  pack = false;
-  degree = 1;
-  n = 2;
-  p_bits = 8;
-  nu1 = 0;
-  nu2 = 0;
-  w_left = 0;
-  w_right = 0;
-  w_conv = 0;
-  w_gsw = 56;
-  q2_bits = 12;
-  always = false;
-}
-
-abbrev edge : ParamSet
-edge = get_or SETS 4 none
 
 -- A database of edge-256: two records of 4 bytes.
 abbrev two_records : RecordTable
@@ -77,7 +56,7 @@ header_refusals = (refl, refl, refl)
 
 -- A Refuse of spiral-2048 with code 12 at place 0, and the Setup of a set without keys, which has no body.
 abbrev spiral : ParamSet
-spiral = get_or SETS 5 none
+spiral = get_or SETS 5 sample
 
 refuse_spelled : frame_of (refuse_message (record { set = spiral; code = 12; place = 0 }))
     ≡ 83 ∷ 80 ∷ 73 ∷ 82 ∷ 1 ∷ 4 ∷ 11 ∷ 115 ∷ 112 ∷ 105 ∷ 114 ∷ 97 ∷ 108 ∷ 45 ∷ 50 ∷ 48 ∷ 52 ∷ 56 ∷ 9 ∷ 0 ∷ 0 ∷ 0 ∷ 0 ∷ 0 ∷ 0 ∷ 0 ∷ 12 ∷ 0 ∷ 0 ∷ 0 ∷ 0 ∷ 0 ∷ 0 ∷ 0 ∷ 0 ∷ []

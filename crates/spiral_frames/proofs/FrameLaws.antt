@@ -50,18 +50,6 @@ unfolding frame_of
 length-frame m len e =
     omega (arith, length-append (header (code_of_kind (kind_of m)) (set_of_message m) (length (body_of m))) (body_of m), length-header (code_of_kind (kind_of m)) (set_of_message m) (length (body_of m)), e)
 
-pub length-state_frame : (bytes : List ℕ) (state : QueryState) → IsOne State bytes (state_message state) → length bytes ≡ 15 + length (name_of state.set) + state_len state.set
-length-state_frame bytes state is =
-    ap length is.spells.spelled ∙ length-frame (state_message state) (state_len state.set) (length-state_body state is.spells.fits.1)
-
-pub length-reply_frame : (bytes : List ℕ) (reply : SwitchedReply) → IsOne Reply bytes (reply_message reply) → length bytes ≡ 15 + length (name_of reply.set) + reply_len reply.set
-length-reply_frame bytes reply is =
-    ap length is.spells.spelled ∙ length-frame (reply_message reply) (reply_len reply.set) (length-reply_body reply is.spells.fits.1)
-
-pub length-query_frame : (bytes : List ℕ) (query : CipherBody) → IsOne Query bytes (query_message query) → length bytes ≡ 15 + length (name_of query.set) + query_len query.set
-length-query_frame bytes query is =
-    ap length is.spells.spelled ∙ length-frame (query_message query) (query_len query.set) (length-query_body query is.spells.fits.1)
-
 -- bytes spell one index, and one count
 pub state_index_is : (x : List ℕ) (s t : QueryState) → IsOne State x (state_message s) → IsOne State x (state_message t) → s.index ≡ t.index
 state_index_is x s t hs ht =

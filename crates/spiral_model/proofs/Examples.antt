@@ -5,7 +5,7 @@ use Rattle.negacyclic.specs.Residues.{residue, floor_div, nearest}
 use Rattle.negacyclic.specs.Digits.{digit, digits, number_of, repacked, digit_poly}
 use Rattle.negacyclic.specs.Ring.{turn, product_at, at, reduced, ring_add, ring_sub, ring_mul, ring_total}
 use Rattle.spiral_sets.specs.declared.param_set.ParamSet.{ParamSet}
-use Rattle.spiral_sets.specs.declared.sets.TheConstants.{SETS}
+use Rattle.spiral_sets.proofs.SampleSet.{sample, edge}
 use Rattle.spiral_sets.specs.Sets.{q}
 use Rattle.spiral_model.specs.Words.{Cipher}
 use Rattle.spiral_model.specs.Databases.{matrix_entry}
@@ -46,22 +46,7 @@ fold_by_hand = (refl, refl)
 
 -- a set of small dimensions: degree 1, a matrix of 2 times 2
 abbrev small : ℕ → Bool → ParamSet
-small nu1 pack = record {
-  id = 0;
-  direct = true;
-  pack = pack;
-  degree = 1;
-  n = 2;
-  p_bits = 8;
-  nu1 = nu1;
-  nu2 = 0;
-  w_left = 0;
-  w_right = 0;
-  w_conv = 0;
-  w_gsw = 56;
-  q2_bits = 12;
-  always = false;
-}
+small nu1 pack = record sample { nu1 = nu1; pack = pack }
 
 -- The matrix product of the ciphertexts (1, 2, 3), (4, 5, 6) as columns with the rows (7, 8), (9, 10).
 matrix_by_hand : first_products (small 0 false) (((7 ∷ []) ∷ (8 ∷ []) ∷ (9 ∷ []) ∷ (10 ∷ []) ∷ []) ∷ [])
@@ -89,9 +74,6 @@ switched_by_hand : (switched_body (small 0 false) result_by_hand ≡ (80 ∷ [])
     × (switched_mask (small 0 false) result_by_hand ≡ (160 ∷ []) ∷ (176 ∷ []) ∷ [])
 unfolding switched_body switched_entry switched_mask switched_zeroth switched nearest floor_div residue q
 switched_by_hand = (refl, refl)
-
-abbrev edge : ParamSet
-edge = get_or SETS 4 (small 0 false)
 
 -- the value 200 stands for -56
 first_entry : take 4 (matrix_entry (record { set = edge; record_length = 3; bytes = 1 ∷ 200 ∷ 3 ∷ [] }) 0 0) ≡ 1 ∷ (q - 56) ∷ 3 ∷ 0 ∷ []

@@ -5,6 +5,7 @@ use Rattle.negacyclic.specs.Residues.{residue}
 use Rattle.negacyclic.specs.Digits.{digit, digit_poly}
 use Rattle.negacyclic.specs.Ring.{turn, product_at, tau_at, shift_at, at, reduced, ring_zero, ring_add, ring_mul, ring_total, ring_scale, ring_shift, tau}
 use Rattle.spiral_sets.specs.declared.param_set.ParamSet.{ParamSet}
+use Rattle.spiral_sets.proofs.SampleSet.{sample}
 use Rattle.spiral_sets.specs.Sets.{q, delta}
 use Rattle.spiral_model.specs.Words.{Cipher}
 use Rattle.spiral_model.specs.Gadgets.{digit_sum, cipher_add}
@@ -17,22 +18,7 @@ use Rattle.spiral_model.specs.Dealing.{auto_message, lift_message, conversion_me
 
 -- a set of small dimensions: a matrix of 2 times 2, digits of 56 bits
 abbrev small : ℕ → ℕ → Bool → ParamSet
-small degree nu pack = record {
-  id = 0;
-  direct = false;
-  pack = pack;
-  degree = degree;
-  n = 2;
-  p_bits = 8;
-  nu1 = nu;
-  nu2 = nu;
-  w_left = 56;
-  w_right = 56;
-  w_conv = 56;
-  w_gsw = 56;
-  q2_bits = 12;
-  always = false;
-}
+small degree nu pack = record sample { direct = false; pack = pack; degree = degree; nu1 = nu; nu2 = nu; w_left = 56; w_right = 56; w_conv = 56 }
 
 -- a key of one digit
 abbrev key_of : Cipher → DigitKey

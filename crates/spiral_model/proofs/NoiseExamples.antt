@@ -5,7 +5,7 @@ use Rattle.negacyclic.specs.Residues.{residue, cen, norm, floor_div, nearest}
 use Rattle.negacyclic.specs.Digits.{digit, digits, number_of, repacked}
 use Rattle.negacyclic.specs.Ring.{turn, product_at, at, reduced, ring_sub, ring_mul, ring_total, ring_scale}
 use Rattle.spiral_sets.specs.declared.param_set.ParamSet.{ParamSet}
-use Rattle.spiral_sets.specs.declared.sets.TheConstants.{SETS}
+use Rattle.spiral_sets.proofs.SampleSet.{sample, edge}
 use Rattle.spiral_sets.specs.Sets.{q, delta}
 use Rattle.spiral_model.specs.Ciphertexts.{phase, constant}
 use Rattle.spiral_model.specs.Sampling.{secret_poly}
@@ -17,22 +17,7 @@ use Rattle.spiral_model.specs.Noise.{noise, noise_norm, place_noise, first_noise
 
 -- a direct set of small dimensions: degree 1, a matrix of 2 times 2, one record, no selections, digits of 56 bits
 abbrev small : Bool → ParamSet
-small pack = record {
-  id = 0;
-  direct = true;
-  pack = pack;
-  degree = 1;
-  n = 2;
-  p_bits = 8;
-  nu1 = 0;
-  nu2 = 0;
-  w_left = 0;
-  w_right = 0;
-  w_conv = 0;
-  w_gsw = 56;
-  q2_bits = 12;
-  always = false;
-}
+small pack = record sample { pack = pack }
 
 abbrev row : ℕ → List ℕ
 row x = x ∷ []
@@ -82,9 +67,6 @@ unfolding selection_noise row_noise noise_norm noise phase gsw_messages column_m
 selection_by_hand = refl
 
 -- On edge-256 the noise 128 fits with 11 numbers of the secret that aren't 0, and doesn't with 12.
-abbrev edge : ParamSet
-edge = get_or SETS 4 (small false)
-
 sides_by_hand : (noise_left edge (record { noise = 128; weight = 11 }) ≡ 263355196006756020649984)
     × (noise_left edge (record { noise = 128; weight = 0 }) ≡ 70228052268669849305088)
     × (noise_left edge (record { noise = 128; weight = 12 }) ≡ 280912209073854763499520)

@@ -1,3 +1,4 @@
 pub mod EachSet
 pub mod SetBounds
 pub mod SetNames
+pub mod SampleSet

@@ -1,7 +1,7 @@
 //! The numbers that a set's dimensions give.
 
 ghost use Rattle.std.specs.Prelude.{true, false, ◌≡◌, ◌≢◌, ◌*◌, ◌^◌, ◌<◌, ◌≤◌, ◌↔◌, IsTrue};
-ghost use Rattle.spiral_sets.specs.Sets.{IsSet, q, digit_count, p, q1_bits, q1, q2, delta, rows, columns, has_keys, entries, places, folded_places, smallest_width};
+ghost use Rattle.spiral_sets.specs.Sets.{IsSet, q, digit_count as digit_count_of, p, q1_bits, q1, q2, delta, rows, columns, has_keys, entries, places, folded_places, smallest_width};
 ghost use Rattle.spiral_sets.specs.Counts.{firsts_count, gsw_count, state_len};
 
 use crate::ParamSet;
@@ -10,10 +10,10 @@ use crate::ParamSet;
 pub const Q: u64 = 66974689739603969;
 
 /// t, how many digits of w bits a residue has: ceil(56 / w), since a residue is below 2^56.
-fn digit_count_of(w: u32) -> u32
+pub fn digit_count(w: u32) -> u32
     requires some { 1 ≤ w }
     requires most { w ≤ 56 }
-    ensures value { result ≡ digit_count w }
+    ensures value { result ≡ digit_count_of w }
     ensures some { 1 ≤ result }
     ensures most { result ≤ 56 }
 {
@@ -147,7 +147,7 @@ impl ParamSet {
         ensures some { 1 ≤ result }
         ensures most { result ≤ 280 }
     {
-        (self.rows() + 1) * digit_count_of(self.w_gsw)
+        (self.rows() + 1) * digit_count(self.w_gsw)
     }
 
     /// Whether the client sends keys, and so has a scalar secret.

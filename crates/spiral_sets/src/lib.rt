@@ -5,7 +5,7 @@ mod dimensions;
 mod param_set;
 mod sets;
 
-pub use dimensions::Q;
+pub use dimensions::{Q, digit_count};
 pub use param_set::ParamSet;
 pub use sets::{set_at, set_named};
 

@@ -7,7 +7,7 @@ use Rattle.std.proofs.lemmas.List.Elements.{All-take, All-drop}
 use Rattle.std.proofs.lemmas.List.Folds.{flat_map-map}
 use Rattle.negacyclic.specs.Digits.{number_of, repacked}
 use Rattle.negacyclic.proofs.Digits.{length-repacked, repacked_below}
-use Rattle.negacyclic.proofs.Filled.{Filled, filled_none, filled_more, filled_count}
+use Rattle.negacyclic.proofs.Filled.{IsPart, FilledPart, filled_part_more}
 use Rattle.negacyclic.proofs.Lists.{all_range, same_pieces, pieces_joined}
 use Rattle.spiral_sets.specs.declared.param_set.ParamSet.{ParamSet}
 use Rattle.spiral_model.specs.Sets.{IsSet, entries, q1_bits, q1, q2, max_records, capacity}
@@ -88,68 +88,19 @@ module _ (reply new : SwitchedReply) (set : ParamSet) (column count : ℕ) (numb
 
 -- ---- all of them put, one after the other
 
-pub record PutsEntries (old : SwitchedReply) (bytes : List ℕ) (count : ℕ) (new : SwitchedReply) : Type 0 where
-  pub others : new ≡ record old { body = new.body }
-  pub filled : Filled (poly_in_bytes old.set (q1_bits old.set) bytes) old.body count new.body
-
-pub record PutsMasks (old : SwitchedReply) (bytes : List ℕ) (count : ℕ) (new : SwitchedReply) : Type 0 where
-  pub others : new ≡ record old { mask = new.mask }
-  pub filled : Filled (poly_in_bytes old.set old.set.q2_bits bytes) old.mask count new.mask
-
-module _ (old : SwitchedReply) (bytes : List ℕ) where
-  pub puts_entries-none : PutsEntries old bytes 0 old
-  puts_entries-none = record { others = refl; filled = filled_none (poly_in_bytes old.set (q1_bits old.set) bytes) old.body }
-
-  pub puts_entries-more : (mid new : SwitchedReply) (k : ℕ) (piece : List ℕ) → PutsEntries old bytes k mid → k < length old.body
-      → piece ≡ take (packed_len old.set (q1_bits old.set)) (drop (k * packed_len old.set (q1_bits old.set)) bytes)
-      → new ≡ record mid { body = slice_set mid.body k (repacked 8 (q1_bits mid.set) mid.set.degree piece) } → PutsEntries old bytes (k + 1) new
+-- Of the polynomials of a part those below k hold the pieces of the bytes, each of numbers of a width that the set has.
+module _ (part : SwitchedReply → List Poly) (with : SwitchedReply → List Poly → SwitchedReply) (is : IsPart part with)
+    (keeps : (r : SwitchedReply) (polys : List Poly) → (with r polys).set ≡ r.set) (width : ParamSet → ℕ) (old : SwitchedReply) (bytes : List ℕ) where
+  pub pieces_more : (mid new : SwitchedReply) (k : ℕ) (piece : List ℕ) → FilledPart part with (poly_in_bytes old.set (width old.set) bytes) old k mid
+      → k < length (part old) → piece ≡ take (packed_len old.set (width old.set)) (drop (k * packed_len old.set (width old.set)) bytes)
+      → new ≡ with mid (slice_set (part mid) k (repacked 8 (width mid.set) mid.set.degree piece))
+      → FilledPart part with (poly_in_bytes old.set (width old.set) bytes) old (k + 1) new
   unfolding poly_in_bytes
-  puts_entries-more mid new k piece puts within piece_is new_is =
-      let set_is : mid.set ≡ old.set = ap (λ (r : SwitchedReply). r.set) puts.others in
-      let numbers : Poly = repacked 8 (q1_bits mid.set) mid.set.degree piece in
-      let body_is : new.body ≡ slice_set mid.body k numbers = ap (λ (r : SwitchedReply). r.body) new_is in
-      let f : ℕ → Poly = poly_in_bytes old.set (q1_bits old.set) bytes in
-      let cut : numbers ≡ f k =
-      ap (λ (t : ParamSet). repacked 8 (q1_bits t) t.degree piece) set_is ∙ ap (repacked 8 (q1_bits old.set) old.set.degree) piece_is in
-      let there : k < length mid.body = omega (arith, puts.filled.count) in
-      record {
-        others = new_is ∙ ap (λ (r : SwitchedReply). record r { body = slice_set mid.body k numbers }) puts.others
-            ∙ ap (λ (b : List Poly). record old { body = b }) (sym body_is);
-        filled = subst (Filled f old.body (k + 1)) (sym body_is) (filled_more f old.body k mid.body numbers there puts.filled cut);
-      }
-
-  pub puts_entries-all : (new : SwitchedReply) (k count : ℕ) → PutsEntries old bytes k new → length old.body ≡ count → count ≤ k
-      → new ≡ record old { body = polys_in_bytes old.set (q1_bits old.set) count bytes }
-  unfolding polys_in_bytes
-  puts_entries-all new k count puts count_is all =
-      puts.others ∙ ap (λ (b : List Poly). record old { body = b }) (filled_count (poly_in_bytes old.set (q1_bits old.set) bytes) old.body count k new.body count_is all puts.filled)
-
-  pub puts_masks-none : PutsMasks old bytes 0 old
-  puts_masks-none = record { others = refl; filled = filled_none (poly_in_bytes old.set old.set.q2_bits bytes) old.mask }
-
-  pub puts_masks-more : (mid new : SwitchedReply) (k : ℕ) (piece : List ℕ) → PutsMasks old bytes k mid → k < length old.mask
-      → piece ≡ take (packed_len old.set old.set.q2_bits) (drop (k * packed_len old.set old.set.q2_bits) bytes)
-      → new ≡ record mid { mask = slice_set mid.mask k (repacked 8 mid.set.q2_bits mid.set.degree piece) } → PutsMasks old bytes (k + 1) new
-  unfolding poly_in_bytes
-  puts_masks-more mid new k piece puts within piece_is new_is =
-      let set_is : mid.set ≡ old.set = ap (λ (r : SwitchedReply). r.set) puts.others in
-      let numbers : Poly = repacked 8 mid.set.q2_bits mid.set.degree piece in
-      let mask_is : new.mask ≡ slice_set mid.mask k numbers = ap (λ (r : SwitchedReply). r.mask) new_is in
-      let f : ℕ → Poly = poly_in_bytes old.set old.set.q2_bits bytes in
-      let cut : numbers ≡ f k =
-      ap (λ (t : ParamSet). repacked 8 t.q2_bits t.degree piece) set_is ∙ ap (repacked 8 old.set.q2_bits old.set.degree) piece_is in
-      let there : k < length mid.mask = omega (arith, puts.filled.count) in
-      record {
-        others = new_is ∙ ap (λ (r : SwitchedReply). record r { mask = slice_set mid.mask k numbers }) puts.others
-            ∙ ap (λ (b : List Poly). record old { mask = b }) (sym mask_is);
-        filled = subst (Filled f old.mask (k + 1)) (sym mask_is) (filled_more f old.mask k mid.mask numbers there puts.filled cut);
-      }
-
-  pub puts_masks-all : (new : SwitchedReply) (k count : ℕ) → PutsMasks old bytes k new → length old.mask ≡ count → count ≤ k
-      → new ≡ record old { mask = polys_in_bytes old.set old.set.q2_bits count bytes }
-  unfolding polys_in_bytes
-  puts_masks-all new k count puts count_is all =
-      puts.others ∙ ap (λ (b : List Poly). record old { mask = b }) (filled_count (poly_in_bytes old.set old.set.q2_bits bytes) old.mask count k new.mask count_is all puts.filled)
+  pieces_more mid new k piece so_far within piece_is put =
+      let set_is : mid.set ≡ old.set = ap (λ (r : SwitchedReply). r.set) so_far.others ∙ keeps old (part mid) in
+      let cut : repacked 8 (width mid.set) mid.set.degree piece ≡ poly_in_bytes old.set (width old.set) bytes k =
+      ap (λ (t : ParamSet). repacked 8 (width t) t.degree piece) set_is ∙ ap (repacked 8 (width old.set) old.set.degree) piece_is in
+      filled_part_more part with is (poly_in_bytes old.set (width old.set) bytes) old mid new k (repacked 8 (width mid.set) mid.set.degree piece) within put cut so_far
 
 -- ---- a Reply's body
 

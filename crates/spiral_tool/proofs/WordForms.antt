@@ -46,10 +46,6 @@ not_workers word n is out k workers =
     let same : k ≡ n = decimal_injective k n (omega (arith, workers.1)) (omega (arith, is.0)) (sym workers.2 ∙ is.1) in
     out (omega (arith, same, workers.0)) (omega (arith, same, workers.1))
 
--- a word of no number is none
-pub no_number : (word : List ℕ) → ((n : ℕ) → IsNumber word n → ⊥) → (k : ℕ) → IsWorkers word k → ⊥
-no_number word none k workers = none k (omega (arith, workers.1), workers.2)
-
 -- the items of a list, from a place on
 items_from : {A B : Type 0} (f : A → B) (xs : List A) (k : ℕ) (x : A) (rest : List B) → k < length xs → x ≡ get_or xs k x
     → map f (drop (suc k) xs) ≡ rest → map f (drop k xs) ≡ f x ∷ rest

@@ -92,6 +92,29 @@ fn each_failing_call_is_a_file_fault_where_it_stands(rt: HostRuntime) -> Result<
     Ok(())
 }
 
+/// What `ask` refuses: set, index and words; the status and the line.
+const REFUSALS: [(&str, &str, &str, u8, &[u8]); 7] = [
+    ("nosuch", "0", "words:short", 3, b"unknown set\n"),
+    ("tiny-spiral", "0", "words:short", 3, b"unknown set\n"),
+    (
+        "edge-256",
+        "4",
+        "words:missing",
+        4,
+        b"index 4 is not below 4\n",
+    ),
+    ("edge-256", "0", "words:missing", 7, b"file fault\n"),
+    (
+        "edge-256",
+        "0",
+        "words:short",
+        5,
+        b"words short: need 29184, have 29183\n",
+    ),
+    ("edge-256", "00", "words:short", 2, b"usage\n"),
+    ("edge-256", "0", "words:", 2, b"usage\n"),
+];
+
 #[test]
 fn ask_refuses_and_writes_nothing(rt: HostRuntime) -> Result<(), Fail> {
     let alloc = rt.alloc();
@@ -99,39 +122,7 @@ fn ask_refuses_and_writes_nothing(rt: HostRuntime) -> Result<(), Fail> {
     let mut words = words_file(alloc)?;
     words.truncate(8 * 29183 + 7);
     files.with("short", &words)?;
-    for (set, index, source, status, line) in [
-        ("nosuch", "0", "words:short", 3, b"unknown set\n".as_slice()),
-        (
-            "tiny-spiral",
-            "0",
-            "words:short",
-            3,
-            b"unknown set\n".as_slice(),
-        ),
-        (
-            "edge-256",
-            "4",
-            "words:missing",
-            4,
-            b"index 4 is not below 4\n".as_slice(),
-        ),
-        (
-            "edge-256",
-            "0",
-            "words:missing",
-            7,
-            b"file fault\n".as_slice(),
-        ),
-        (
-            "edge-256",
-            "0",
-            "words:short",
-            5,
-            b"words short: need 29184, have 29183\n".as_slice(),
-        ),
-        ("edge-256", "00", "words:short", 2, b"usage\n".as_slice()),
-        ("edge-256", "0", "words:", 2, b"usage\n".as_slice()),
-    ] {
+    for (set, index, source, status, line) in REFUSALS {
         let mut sink = MemSink::new(alloc, Vec::new(alloc));
         let ask = ["ask", set, index, source, "state", "setup", "query"];
         assert_eq!(rt;

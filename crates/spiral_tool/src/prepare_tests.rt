@@ -55,51 +55,54 @@ fn no_byte_is_a_database_of_no_record(rt: HostRuntime) -> Result<(), Fail> {
     Ok(())
 }
 
+/// What `prepare` refuses: set, length, and how many bytes the input has; the status and the line.
+const REFUSALS: [(&str, &str, usize, u8, &[u8]); 8] = [
+    ("nosuch", "4", 8, 3, b"unknown set\n"),
+    ("tiny-spiral", "4", 8, 3, b"unknown set\n"),
+    (
+        "edge-256",
+        "4",
+        7,
+        13,
+        b"bad records: code 10, length 4, number 7\n",
+    ),
+    (
+        "edge-256",
+        "4",
+        20,
+        13,
+        b"bad records: code 9, length 4, number 4\n",
+    ),
+    (
+        "edge-256",
+        "4",
+        17,
+        13,
+        b"bad records: code 9, length 4, number 4\n",
+    ),
+    (
+        "edge-256",
+        "1025",
+        7,
+        13,
+        b"bad records: code 8, length 1025, number 1024\n",
+    ),
+    (
+        "edge-256",
+        "0",
+        7,
+        13,
+        b"bad records: code 8, length 0, number 1024\n",
+    ),
+    ("edge-256", "04", 8, 2, b"usage\n"),
+];
+
 // A database of edge-256 has 4 records at most, of 1024 bytes at most.
 #[test]
 fn prepare_refuses_and_writes_nothing(rt: HostRuntime) -> Result<(), Fail> {
     let alloc = rt.alloc();
     let mut files = MemFiles::new(alloc, Vec::new(alloc));
-    for (set, length, size, status, line) in [
-        ("nosuch", "4", 8, 3, b"unknown set\n".as_slice()),
-        ("tiny-spiral", "4", 8, 3, b"unknown set\n".as_slice()),
-        (
-            "edge-256",
-            "4",
-            7,
-            13,
-            b"bad records: code 10, length 4, number 7\n".as_slice(),
-        ),
-        (
-            "edge-256",
-            "4",
-            20,
-            13,
-            b"bad records: code 9, length 4, number 4\n".as_slice(),
-        ),
-        (
-            "edge-256",
-            "4",
-            17,
-            13,
-            b"bad records: code 9, length 4, number 4\n".as_slice(),
-        ),
-        (
-            "edge-256",
-            "1025",
-            7,
-            13,
-            b"bad records: code 8, length 1025, number 1024\n".as_slice(),
-        ),
-        (
-            "edge-256",
-            "0",
-            7,
-            13,
-            b"bad records: code 8, length 0, number 1024\n".as_slice(),
-        ),
-        ("edge-256", "04", 8, 2, b"usage\n".as_slice()),
-    ] {
+    for (set, length, size, status, line) in REFUSALS {
         files.with("input", &vec![in alloc; 0u8; size]?)?;
         let mut sink = MemSink::new(alloc, Vec::new(alloc));
         let words = ["prepare", set, length, "input", "db"];

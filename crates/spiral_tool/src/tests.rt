@@ -106,6 +106,20 @@ fn open_writes_the_record(rt: HostRuntime) -> Result<(), Fail> {
     Ok(())
 }
 
+/// What `open` refuses: the words, the status and the line.
+const REFUSALS: [(&[&str], u8, &[u8]); 6] = [
+    (
+        &["open", "state1", "reply", "out"],
+        11,
+        b"absent: index 1, count 1\n",
+    ),
+    (&["open", "state", "cut", "out"], 9, b""),
+    (&["open", "reply", "reply", "out"], 9, b""),
+    (&["open", "state", "missing", "out"], 7, b"file fault\n"),
+    (&["open", "a", "b"], 2, b"usage\n"),
+    (&["shut", "state", "reply", "out"], 2, b"usage\n"),
+];
+
 #[test]
 fn open_refuses_and_writes_nothing(rt: HostRuntime) -> Result<(), Fail> {
     let alloc = rt.alloc();
@@ -113,34 +127,7 @@ fn open_refuses_and_writes_nothing(rt: HostRuntime) -> Result<(), Fail> {
     let mut cut = reply_frame(alloc, 0)?;
     cut.truncate(2086);
     files.with("cut", &cut)?;
-    for (words, status, line) in [
-        (
-            ["open", "state1", "reply", "out"].as_slice(),
-            11,
-            b"absent: index 1, count 1\n".as_slice(),
-        ),
-        (
-            ["open", "state", "cut", "out"].as_slice(),
-            9,
-            b"".as_slice(),
-        ),
-        (
-            ["open", "reply", "reply", "out"].as_slice(),
-            9,
-            b"".as_slice(),
-        ),
-        (
-            ["open", "state", "missing", "out"].as_slice(),
-            7,
-            b"file fault\n".as_slice(),
-        ),
-        (["open", "a", "b"].as_slice(), 2, b"usage\n".as_slice()),
-        (
-            ["shut", "state", "reply", "out"].as_slice(),
-            2,
-            b"usage\n".as_slice(),
-        ),
-    ] {
+    for (words, status, line) in REFUSALS {
         let mut sink = MemSink::new(alloc, Vec::new(alloc));
         assert_eq!(rt;
             status_of(&rt, alloc, words, &mut files, &mut sink)?,

@@ -104,34 +104,30 @@ impl<'a> Command<'a> {
                 out: out.as_str(),
             }),
             [command, set, index, source, state, setup, query] if command.as_str() == "ask" => {
-                let index = plain_number(index.as_str())?;
-                let source = Source::from_word(source.as_str())?;
                 Some(Command::Ask(Ask {
                     set: set.as_str(),
-                    index,
-                    source,
+                    index: plain_number(index.as_str())?,
+                    source: Source::from_word(source.as_str())?,
                     state: state.as_str(),
                     setup: setup.as_str(),
                     query: query.as_str(),
                 }))
             }
             [command, set, length, input, db] if command.as_str() == "prepare" => {
-                let length = plain_number(length.as_str())?;
                 Some(Command::Prepare(Prepare {
                     set: set.as_str(),
-                    length,
+                    length: plain_number(length.as_str())?,
                     input: input.as_str(),
                     db: db.as_str(),
                 }))
             }
             [command, db, setup, query, reply, workers] if command.as_str() == "answer" => {
-                let workers = worker_number(workers.as_str())?;
                 Some(Command::Answer(Answer {
                     db: db.as_str(),
                     setup: setup.as_str(),
                     query: query.as_str(),
                     reply: reply.as_str(),
-                    workers,
+                    workers: worker_number(workers.as_str())?,
                 }))
             }
             _ => None,

@@ -1,5 +1,7 @@
-use Rattle.pir_server.proofs.Replies.{PutsBody}
+use Rattle.negacyclic.proofs.Filled.{FilledPart}
+use Rattle.spiral_model.specs.Replies.{switched_entry}
+use Rattle.modulus_switch.proofs.Parts.{body_in, with_body}
 use Rattle.pir_server.proofs.answering.put_body.Given as goal
 
 abbrev pub invariant-loop-e : goal.invariant-loop-e
-invariant-loop-e l = PutsBody l.set l.columns l.e l.fn.reply l.reply
+invariant-loop-e l = FilledPart body_in with_body (switched_entry l.set l.columns) l.fn.reply l.e l.reply

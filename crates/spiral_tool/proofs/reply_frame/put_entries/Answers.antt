@@ -1,14 +1,17 @@
-use Rattle.std.proofs.Common.{◌≡◌, ◌<◌, ◌+◌, ◌-◌, ◌*◌, ℕ, List, length, take, drop, ◌∙◌, ap, sym, arith}
+use Rattle.std.proofs.Common.{◌≡◌, ◌<◌, ◌+◌, ◌-◌, ◌*◌, ℕ, List, length, take, drop, refl, ◌∙◌, ap, sym, arith}
+use Rattle.negacyclic.proofs.Filled.{filled_part_none, filled_part_all}
 use Rattle.spiral_sets.specs.declared.param_set.ParamSet.{ParamSet}
 use Rattle.spiral_model.specs.Sets.{entries, q1_bits}
 use Rattle.spiral_model.specs.Counts.{packed_len}
 use Rattle.spiral_model.specs.Replies.{SwitchedReply}
+use Rattle.modulus_switch.proofs.Parts.{body_in, with_body, body_part}
 use Rattle.spiral_tool.proofs.Pieces.{piece_is}
-use Rattle.spiral_tool.proofs.Replies.{puts_entries-none, puts_entries-more, puts_entries-all}
+use Rattle.spiral_tool.specs.Pieces.{poly_in_bytes, polys_in_bytes}
+use Rattle.spiral_tool.proofs.Replies.{pieces_more}
 use Rattle.spiral_tool.proofs.reply_frame.put_entries.Goals as goal
 
 pub loop-place-init : goal.loop-place-init
-loop-place-init c = puts_entries-none c.args.reply.now c.args.bytes.now
+loop-place-init c = filled_part_none body_in with_body body_part (poly_in_bytes c.args.reply.now.set (q1_bits c.args.reply.now.set) c.args.bytes.now) c.args.reply.now
 
 pub loop-place-preserved : goal.loop-place-preserved
 loop-place-preserved c =
@@ -21,11 +24,13 @@ loop-place-preserved c =
     let within : k < entries old.set = omega (arith, count) in
     let there : k < length old.body = omega (arith, within, c.set-set.ensures.kept.body_count) in
     let room : length bytes ≡ entries old.set * len = c.requires.room ∙ ap (λ (w : ℕ). entries old.set * w) (sym len_is) in
-    puts_entries-more old bytes c.loop-place.reply c.put_entry.new.reply k (take (k * len + len - k * len) (drop (k * len) bytes)) c.loop-place.invariant there
+    pieces_more body_in with_body body_part (λ r polys. refl) q1_bits old bytes c.loop-place.reply c.put_entry.new.reply k (take (k * len + len - k * len) (drop (k * len) bytes)) c.loop-place.invariant there
     (piece_is bytes k len (entries old.set) within room ∙ ap (λ (w : ℕ). take w (drop (k * w) bytes)) len_is) c.put_entry.ensures
 
 pub returns : goal.returns
+unfolding polys_in_bytes
 returns c =
     let old : SwitchedReply = c.args.reply.now in
     let count : c.entries-place-end.result ≡ entries old.set = c.entries-place-end.ensures.value ∙ ap entries c.set-set.ensures.value in
-    puts_entries-all old c.args.bytes.now c.loop-place.reply c.loop-place.place (entries old.set) c.loop-place.invariant c.set-set.ensures.kept.body_count (omega (arith, count))
+    filled_part_all body_in with_body body_part (poly_in_bytes old.set (q1_bits old.set) c.args.bytes.now) old c.loop-place.reply (entries old.set) c.loop-place.place
+    c.set-set.ensures.kept.body_count (omega (arith, count)) c.loop-place.invariant

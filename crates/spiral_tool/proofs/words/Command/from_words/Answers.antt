@@ -14,47 +14,47 @@ returns-in-len4 c =
     let first : c.as_str.result.now ≡ codes "open" = (bytes_eq-Decides _ _).0 (sym c.eq.ensures ∙ c.if-eq.true) in
     (tt, cc (all, first, c.as_str.ensures.value, c.as_str-in-len4.ensures.value, c.as_str-in-len4-2.ensures.value, c.as_str-in-len4-3.ensures.value))
 
-pub returns-in_err-index-in-len7 : goal.returns-in_err-index-in-len7
-returns-in_err-index-in-len7 c =
+pub returns-in_err-plain_number-in-len7 : goal.returns-in_err-plain_number-in-len7
+returns-in_err-plain_number-in-len7 c =
     let all = seven_items string_bytes c.args.words.now c.command-item-then-words-lt8.result c.set-item-then-words-lt8.result c.index-item.result c.source-item.result c.state-item-then-words-lt8.result c.setup-item-then-words-lt8.result c.query-item-then-words-lt8.result c.in-len7.len_at_least c.in-len7.len_below c.command-item-then-words-lt8.is c.set-item-then-words-lt8.is c.index-item.is c.source-item.is c.state-item-then-words-lt8.is c.setup-item-then-words-lt8.is c.query-item-then-words-lt8.is in
-    rw c.from_residual-in_err-index-in-len7.ensures (no_index _ _ _ _ _ _ _ _ all (subst (λ (w : List ℕ). (n : ℕ) → IsNumber w n → ⊥) c.as_str-in-len7.ensures.value c.in_err-index-in-len7.ensures))
+    rw c.from_residual-in_err-plain_number-in-len7.ensures (no_index _ _ _ _ _ _ _ _ all (subst (λ (w : List ℕ). (n : ℕ) → IsNumber w n → ⊥) c.as_str-in-len7-2.ensures.value c.in_err-plain_number-in-len7.ensures))
 
-pub returns-in_err-source-in-len7 : goal.returns-in_err-source-in-len7
-returns-in_err-source-in-len7 c =
+pub returns-in_err-from_word-in-len7 : goal.returns-in_err-from_word-in-len7
+returns-in_err-from_word-in-len7 c =
     let all = seven_items string_bytes c.args.words.now c.command-item-then-words-lt8.result c.set-item-then-words-lt8.result c.index-item.result c.source-item.result c.state-item-then-words-lt8.result c.setup-item-then-words-lt8.result c.query-item-then-words-lt8.result c.in-len7.len_at_least c.in-len7.len_below c.command-item-then-words-lt8.is c.set-item-then-words-lt8.is c.index-item.is c.source-item.is c.state-item-then-words-lt8.is c.setup-item-then-words-lt8.is c.query-item-then-words-lt8.is in
-    rw c.from_residual-in_err-source-in-len7.ensures (no_source _ _ _ _ _ _ _ _ all (subst (λ (w : List ℕ). (source : WordSource) → NamesSource w source → ⊥) c.as_str-in-len7-2.ensures.value c.in_err-source-in-len7.ensures))
+    rw c.from_residual-in_err-from_word-in-len7.ensures (no_source _ _ _ _ _ _ _ _ all (subst (λ (w : List ℕ). (source : WordSource) → NamesSource w source → ⊥) c.as_str-in-len7-3.ensures.value c.in_err-from_word-in-len7.ensures))
 
-pub returns-in_ok-source-in-len7 : goal.returns-in_ok-source-in-len7
-returns-in_ok-source-in-len7 c =
+pub returns-in_ok-from_word-in-len7 : goal.returns-in_ok-from_word-in-len7
+returns-in_ok-from_word-in-len7 c =
     let all = seven_items string_bytes c.args.words.now c.command-item-then-words-lt8.result c.set-item-then-words-lt8.result c.index-item.result c.source-item.result c.state-item-then-words-lt8.result c.setup-item-then-words-lt8.result c.query-item-then-words-lt8.result c.in-len7.len_at_least c.in-len7.len_below c.command-item-then-words-lt8.is c.set-item-then-words-lt8.is c.index-item.is c.source-item.is c.state-item-then-words-lt8.is c.setup-item-then-words-lt8.is c.query-item-then-words-lt8.is in
     let first : c.as_str-then-words-lt8.result.now ≡ codes "ask" = (bytes_eq-Decides _ _).0 (sym c.eq-then-words-lt8.ensures ∙ c.if-eq-4.true) in
-    let index : IsNumber c.as_str-in-len7.result.now c.in_ok-index-in-len7.index = c.in_ok-index-in-len7.ensures in
-    let source : NamesSource c.as_str-in-len7-2.result.now (source_seen c.in_ok-source-in-len7.source) = c.in_ok-source-in-len7.ensures in
-    ((index.0, source.0), same_seven all (sym c.as_str-then-words-lt8.ensures.value ∙ first) (sym c.as_str-in-len7-3.ensures.value) (sym c.as_str-in-len7.ensures.value ∙ index.1) (sym c.as_str-in-len7-2.ensures.value ∙ source.1) (sym c.as_str-in-len7-4.ensures.value) (sym c.as_str-in-len7-5.ensures.value) (sym c.as_str-in-len7-6.ensures.value))
+    let index : IsNumber c.as_str-in-len7-2.result.now c.in_ok-plain_number-in-len7.field-0 = c.in_ok-plain_number-in-len7.ensures in
+    let source : NamesSource c.as_str-in-len7-3.result.now (source_seen c.in_ok-from_word-in-len7.field-0) = c.in_ok-from_word-in-len7.ensures in
+    ((index.0, source.0), same_seven all (sym c.as_str-then-words-lt8.ensures.value ∙ first) (sym c.as_str-in-len7.ensures.value) (sym c.as_str-in-len7-2.ensures.value ∙ index.1) (sym c.as_str-in-len7-3.ensures.value ∙ source.1) (sym c.as_str-in-len7-4.ensures.value) (sym c.as_str-in-len7-5.ensures.value) (sym c.as_str-in-len7-6.ensures.value))
 
-pub returns-in_err-length-in-len5 : goal.returns-in_err-length-in-len5
-returns-in_err-length-in-len5 c =
+pub returns-in_err-plain_number-in-len5 : goal.returns-in_err-plain_number-in-len5
+returns-in_err-plain_number-in-len5 c =
     let all = five_items string_bytes c.args.words.now c.command-item-then-words-lt6.result c.set-item.result c.length-item.result c.input-item.result c.db-item.result c.in-len5.len_at_least c.in-len5.len_below c.command-item-then-words-lt6.is c.set-item.is c.length-item.is c.input-item.is c.db-item.is in
-    rw c.from_residual.ensures (no_record_length _ _ _ _ _ _ all (subst (λ (w : List ℕ). (n : ℕ) → IsNumber w n → ⊥) c.as_str-in-len5.ensures.value c.in_err-length-in-len5.ensures))
+    rw c.from_residual.ensures (no_record_length _ _ _ _ _ _ all (subst (λ (w : List ℕ). (n : ℕ) → IsNumber w n → ⊥) c.as_str-in-len5-2.ensures.value c.in_err-plain_number-in-len5.ensures))
 
-pub returns-in_ok-length-in-len5 : goal.returns-in_ok-length-in-len5
-returns-in_ok-length-in-len5 c =
+pub returns-in_ok-plain_number-in-len5 : goal.returns-in_ok-plain_number-in-len5
+returns-in_ok-plain_number-in-len5 c =
     let all = five_items string_bytes c.args.words.now c.command-item-then-words-lt6.result c.set-item.result c.length-item.result c.input-item.result c.db-item.result c.in-len5.len_at_least c.in-len5.len_below c.command-item-then-words-lt6.is c.set-item.is c.length-item.is c.input-item.is c.db-item.is in
     let first : c.as_str-then-words-lt6.result.now ≡ codes "prepare" = (bytes_eq-Decides _ _).0 (sym c.eq-then-words-lt6.ensures ∙ c.if-eq-2.true) in
-    let number : IsNumber c.as_str-in-len5.result.now c.in_ok-length-in-len5.length = c.in_ok-length-in-len5.ensures in
-    (number.0, same_five all (sym c.as_str-then-words-lt6.ensures.value ∙ first) (sym c.as_str-in-len5-2.ensures.value) (sym c.as_str-in-len5.ensures.value ∙ number.1) (sym c.as_str-in-len5-3.ensures.value) (sym c.as_str-in-len5-4.ensures.value))
+    let number : IsNumber c.as_str-in-len5-2.result.now c.in_ok-plain_number-in-len5.field-0 = c.in_ok-plain_number-in-len5.ensures in
+    (number.0, same_five all (sym c.as_str-then-words-lt6.ensures.value ∙ first) (sym c.as_str-in-len5.ensures.value) (sym c.as_str-in-len5-2.ensures.value ∙ number.1) (sym c.as_str-in-len5-3.ensures.value) (sym c.as_str-in-len5-4.ensures.value))
 
-pub returns-in_err-workers-in-len6 : goal.returns-in_err-workers-in-len6
-returns-in_err-workers-in-len6 c =
+pub returns-in_err-worker_number-in-len6 : goal.returns-in_err-worker_number-in-len6
+returns-in_err-worker_number-in-len6 c =
     let all = six_items string_bytes c.args.words.now c.command-item-then-words-lt7.result c.db-item-then-words-lt7.result c.setup-item.result c.query-item.result c.reply-item-then-words-lt7.result c.workers-item.result c.in-len6.len_at_least c.in-len6.len_below c.command-item-then-words-lt7.is c.db-item-then-words-lt7.is c.setup-item.is c.query-item.is c.reply-item-then-words-lt7.is c.workers-item.is in
-    rw c.from_residual-in_err-workers-in-len6.ensures (no_workers _ _ _ _ _ _ _ all (subst (λ (w : List ℕ). (n : ℕ) → IsWorkers w n → ⊥) c.as_str-in-len6.ensures.value c.in_err-workers-in-len6.ensures))
+    rw c.from_residual-in_err-worker_number-in-len6.ensures (no_workers _ _ _ _ _ _ _ all (subst (λ (w : List ℕ). (n : ℕ) → IsWorkers w n → ⊥) c.as_str-in-len6-5.ensures.value c.in_err-worker_number-in-len6.ensures))
 
-pub returns-in_ok-workers-in-len6 : goal.returns-in_ok-workers-in-len6
-returns-in_ok-workers-in-len6 c =
+pub returns-in_ok-worker_number-in-len6 : goal.returns-in_ok-worker_number-in-len6
+returns-in_ok-worker_number-in-len6 c =
     let all = six_items string_bytes c.args.words.now c.command-item-then-words-lt7.result c.db-item-then-words-lt7.result c.setup-item.result c.query-item.result c.reply-item-then-words-lt7.result c.workers-item.result c.in-len6.len_at_least c.in-len6.len_below c.command-item-then-words-lt7.is c.db-item-then-words-lt7.is c.setup-item.is c.query-item.is c.reply-item-then-words-lt7.is c.workers-item.is in
     let first : c.as_str-then-words-lt7.result.now ≡ codes "answer" = (bytes_eq-Decides _ _).0 (sym c.eq-then-words-lt7.ensures ∙ c.if-eq-3.true) in
-    let number : IsWorkers c.as_str-in-len6.result.now c.in_ok-workers-in-len6.workers = c.in_ok-workers-in-len6.ensures in
-    ((number.0, number.1), same_six all (sym c.as_str-then-words-lt7.ensures.value ∙ first) (sym c.as_str-in-len6-2.ensures.value) (sym c.as_str-in-len6-3.ensures.value) (sym c.as_str-in-len6-4.ensures.value) (sym c.as_str-in-len6-5.ensures.value) (sym c.as_str-in-len6.ensures.value ∙ number.2))
+    let number : IsWorkers c.as_str-in-len6-5.result.now c.in_ok-worker_number-in-len6.field-0 = c.in_ok-worker_number-in-len6.ensures in
+    ((number.0, number.1), same_six all (sym c.as_str-then-words-lt7.ensures.value ∙ first) (sym c.as_str-in-len6.ensures.value) (sym c.as_str-in-len6-2.ensures.value) (sym c.as_str-in-len6-3.ensures.value) (sym c.as_str-in-len6-4.ensures.value) (sym c.as_str-in-len6-5.ensures.value ∙ number.2))
 
 pub returns-in_default : goal.returns-in_default
 returns-in_default c =
