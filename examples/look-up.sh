@@ -5,20 +5,10 @@
 #   examples/look-up.sh [NAME]        (a name of the list; by default the one in its middle)
 set -u
 export LC_ALL=C
-top=$(cd "$(dirname "$0")/.." && pwd)
+. "$(dirname "$0")/build.bash"
 set_name=tiny-stream most=8 length=1024 # a database of this set has at most 8 records of at most 1024 bytes
 workers=2
-
-program=$top/crates/spiral_tool/out/spiral_tool
-if [ ! -x "$program" ]; then
-  log=${TMPDIR:-/tmp}/spiral-build.log
-  echo "Proving and building the program; the first time this takes about a quarter of an hour ..." >&2
-  (cd "$top/crates/spiral_tool" && rt run > "$log" 2>&1)
-  if [ ! -x "$program" ]; then
-    echo "The build failed; its output is in $log" >&2
-    exit 1
-  fi
-fi
+build_program
 
 umask 077 # the seed and the state are the client's secrets: nobody else may read them
 work=$(mktemp -d) || exit 1

@@ -3,7 +3,7 @@
 # and whose numbers are 4 times the text's bytes, so that the opened record is the text.
 #   examples/open-text.sh [TEXT]      (1 to 1024 bytes)
 set -u
-top=$(cd "$(dirname "$0")/.." && pwd)
+. "$(dirname "$0")/build.bash"
 text=${1-"A private look-up that can't come back wrong."}
 LC_ALL=C
 length=${#text}
@@ -12,16 +12,7 @@ if [ "$length" -lt 1 ] || [ "$length" -gt 1024 ]; then
   exit 2
 fi
 
-program=$top/crates/spiral_tool/out/spiral_tool
-if [ ! -x "$program" ]; then
-  echo "Proving and building the program; the first time this takes about a quarter of an hour ..." >&2
-  (cd "$top/crates/spiral_tool" && rt run > "${TMPDIR:-/tmp}/spiral-build.log" 2>&1)
-  if [ ! -x "$program" ]; then
-    echo "The build failed; its output is in ${TMPDIR:-/tmp}/spiral-build.log" >&2
-    exit 1
-  fi
-fi
-
+build_program
 work=$(mktemp -d) || exit 1
 trap 'rm -rf "$work"' EXIT
 cd "$work" || exit 1

@@ -2,16 +2,6 @@
 # The command `ask`, on real files: a query worked by hand, each refusal, and how far the words are read.
 . "$(dirname "$0")/checks.bash"
 
-# bytes HEX: these bytes; repeat HEX COUNT: these bytes so many times.
-bytes() { printf '%b' "$(printf '%s' "$1" | sed 's/../\\x&/g')"; }
-repeat() { bytes "$1" > unit; for ((k = 0; k < $2; k++)); do cat unit; done; }
-
-# at FILE PLACE COUNT: so many bytes of a file from a place on, as hexadecimal digits.
-at() { od -An -v -tx1 -j "$2" -N "$3" "$1" | tr -d ' \n'; }
-
-# is NAME WANTED GOT: the two are equal.
-is() { if [ "$2" = "$3" ]; then passed=$((passed + 1)); else failed=$((failed + 1)); echo "FAILED $1: wanted '$2', got '$3'"; fi; }
-
 # In edge-256 a query takes 29184 words. With the first 11 words 2, the next 501 words 1 and all others 0 the secret s_1 has
 # eleven numbers 1, and uniform parts and errors are 0: what is left is Delta = floor(q / 256), least byte first
 # 00df1e20f1ed00, in row 1 of ciphertext 0 and in row 2 of ciphertext 1; the selection bit of index 0 is 0.
@@ -41,8 +31,9 @@ expect "a seed of 31 bytes" 5 "words short: need 29184, have 0" ask edge-256 0 s
 expect "a seed" 0 "query edge-256 setup 0 bytes query 150551 bytes" ask edge-256 3 seed:seed s1 u1 q1
 expect "a longer seed" 0 "query edge-256 setup 0 bytes query 150551 bytes" ask edge-256 3 seed:seed36 s2 u2 q2
 same "a longer seed" q1 q2; same "a longer seed's state" s1 s2
-# the first uniform number of a seed of zeros stands behind the 512 words of the secrets, and is below q
-is "bytes of a residue" 7 "$(at q1 23 7 | awk '{ print length($0) / 2 }')"
+# The first uniform number of a seed of zeros is made of words 512 and 513, behind those of the secrets: word 512 times 2^64 and word
+# 513, modulo q. The words are the key stream of ChaCha20, as openssl gives it for a key and a nonce of zeros.
+is "the first residue" 63a4abaa797e1d "$(at q1 23 7)"
 
 expect "an unknown set" 3 "unknown set" ask nosuch 0 words:w a b c
 expect "a set that isn't handled" 3 "unknown set" ask tiny-spiral 0 words:w a b c

@@ -29,6 +29,18 @@ same() {
   if cmp -s "$2" "$3"; then passed=$((passed + 1)); else failed=$((failed + 1)); echo "FAILED $1: $2 and $3 differ"; fi
 }
 
+# is NAME WANTED GOT: the two texts are equal.
+is() { if [ "$2" = "$3" ]; then passed=$((passed + 1)); else failed=$((failed + 1)); echo "FAILED $1: wanted '$2', got '$3'"; fi; }
+
+# bytes HEX: these bytes. repeat HEX COUNT: these bytes so many times. times COUNT FILE: the file's bytes so many times.
+bytes() { printf '%b' "$(printf '%s' "$1" | sed 's/../\\x&/g')"; }
+repeat() { bytes "$1" > unit; times "$2" unit; }
+times() { for ((k = 0; k < $1; k++)); do cat "$2"; done; }
+
+# hex FILE: a file's bytes as hexadecimal digits. at FILE PLACE COUNT: so many of them from a place on.
+hex() { od -An -v -tx1 "$1" | tr -d ' \n'; }
+at() { od -An -v -tx1 -j "$2" -N "$3" "$1" | tr -d ' \n'; }
+
 # absent NAME FILE: no such file was made.
 absent() {
   if [ ! -e "$2" ]; then passed=$((passed + 1)); else failed=$((failed + 1)); echo "FAILED $1: $2 was made"; fi

@@ -2,14 +2,6 @@
 # The commands `prepare` and `answer`, and whole look-ups through the four commands, on real files.
 . "$(dirname "$0")/checks.bash"
 
-# bytes HEX: these bytes; repeat HEX COUNT: these bytes so many times; hex FILE: a file's bytes as hexadecimal digits.
-bytes() { printf '%b' "$(printf '%s' "$1" | sed 's/../\\x&/g')"; }
-repeat() { bytes "$1" > unit; for ((k = 0; k < $2; k++)); do cat unit; done; }
-hex() { od -An -v -tx1 "$1" | tr -d ' \n'; }
-
-# is NAME WANTED GOT: the two are equal.
-is() { if [ "$2" = "$3" ]; then passed=$((passed + 1)); else failed=$((failed + 1)); echo "FAILED $1: wanted '$2', got '$3'"; fi; }
-
 # ---- databases
 
 front=53504952010608656467652d323536 # of a Database of edge-256, up to the body length
@@ -83,6 +75,15 @@ for ((k = 0; k < 8; k++)); do
   "$program" ask tiny-stream $k seed:seed_k st su qu > said && "$program" answer eight_db su qu re 2 > said && "$program" open st re record_k > said
   is "record $k" "$(tail -c +$((5 * k + 1)) eight_records | head -c 5)" "$(cat record_k)"
 done
+
+# ---- a look-up on stream-2048, whose values of 15 bits don't divide a byte: the last of three records, the last byte of each its own
+
+{ for k in 1 2 3; do head -c 15359 /dev/zero | tr '\0' "\\$k"; bytes "f$k"; done; } > three_records
+expect "records of 15 bits" 0 "database stream-2048 3 records of 15360 bytes" prepare stream-2048 15360 three_records three_db
+expect "a query of 15 bits" 0 "query stream-2048 setup 0 bytes query 8601626 bytes" ask stream-2048 2 seed:seed long_state long_setup long_query
+expect "an answer of 15 bits" 0 "reply stream-2048 32810 bytes" answer three_db long_setup long_query long_reply 2
+tail -c 15360 three_records > third
+expect "a record of 15 bits" 0 "record 15360 bytes" open long_state long_reply record_3; same "a record of 15 bits" record_3 third
 
 # ---- what `answer` refuses, each before REPLY is made
 

@@ -2,12 +2,6 @@
 # The command `open` on set edge-256, on real files: each status that files alone can bring about.
 . "$(dirname "$0")/checks.bash"
 
-# bytes HEX: these bytes.
-bytes() { printf '%b' "$(printf '%s' "$1" | sed 's/../\\x&/g')"; }
-
-# times N FILE: the file's bytes, N times.
-times() { for ((k = 0; k < $1; k++)); do cat "$2"; done; }
-
 # packed ADD: the numbers 4v + ADD for v = 0 to 255, 10 bits each, four of them in 5 bytes.
 packed() {
   local v n hex=""
@@ -25,6 +19,7 @@ secret() { head -c 512 /dev/zero | tr '\0' "\\$1"; }
 { bytes "${magic}0105${name}08020000000000000000000000000000"; secret 001; } > state
 { bytes "${magic}0105${name}08020000000000000100000000000000"; secret 001; } > state1
 packed 0 > exact; packed 2 > half
+is "the first entries of 4v" 0010800003 "$(at exact 0 5)"; is "the first entries of 4v + 2" 0218a08003 "$(at half 0 5)"
 { bytes "${magic}0103${name}100800000000000001000000000000000004000000000000"; times 4 exact; row0; } > reply
 { bytes "${magic}0103${name}100800000000000001000000000000000004000000000000"; times 4 half; row0; } > reply_half
 for ((v = 0; v < 256; v++)); do printf '%02x' $v; done > hex; bytes "$(cat hex)" > byte_row; times 4 byte_row > steps

@@ -1,12 +1,12 @@
 -- Where a reply's polynomials stand: what the words by row and column are for the mask, and for an entry of the body.
-use Rattle.std.proofs.Common.{◌≡◌, ◌≢◌, ℕ, zero, suc, ◌+◌, ◌-◌, ◌/◌, ◌%◌, ◌^◌, ◌≤◌, ◌==◌, if◌then◌else◌, Bool, refl, ◌∙◌, ap, arith, ne_eqb, slice_set}
+use Rattle.std.proofs.Common.{◌≡◌, ◌≢◌, ℕ, zero, suc, ◌+◌, ◌-◌, ◌/◌, ◌%◌, ◌^◌, ◌≤◌, ◌==◌, if◌then◌else◌, Bool, ◌∙◌, ap, arith, ne_eqb}
 use Rattle.std.proofs.lemmas.Nat.{div-add-mod'}
 use Rattle.spiral_sets.specs.declared.param_set.ParamSet.{ParamSet}
-use Rattle.spiral_sets.specs.Sets.{IsSet, q1, q2}
+use Rattle.spiral_sets.specs.Sets.{IsSet, q1}
 use Rattle.spiral_sets.proofs.SetBounds.{q1-most, q2-most}
-use Rattle.spiral_model.specs.Words.{Poly, poly_of}
+use Rattle.spiral_model.specs.Words.{poly_of}
 use Rattle.spiral_model.specs.Replies.{SwitchedReply}
-use Rattle.modulus_switch.specs.Places.{place_in_body, poly_in, put_poly, row_modulus}
+use Rattle.modulus_switch.specs.Places.{place_in_body, poly_in, row_modulus}
 
 -- a column from 0
 column_is : (c : ℕ) → c + 1 - 1 ≡ c
@@ -32,21 +32,6 @@ pub poly_in-body : (reply : SwitchedReply) (e : ℕ) → poly_in reply (e / repl
 poly_in-body reply e =
     row_of_body (e / reply.set.n) (poly_of reply.mask (e % reply.set.n + 1 - 1)) (poly_of reply.body (place_in_body reply.set (e / reply.set.n + 1) (e % reply.set.n + 1)))
     ∙ ap (poly_of reply.body) (entry_place reply.set e)
-
--- the reply when another polynomial is put there
-pub put_poly-mask : (reply : SwitchedReply) (c : ℕ) (a : Poly) → put_poly reply 0 (c + 1) a ≡ record reply { mask = slice_set reply.mask c a }
-put_poly-mask reply c a = ap (λ (k : ℕ). let r : SwitchedReply = record reply { mask = slice_set reply.mask k a } in r) (column_is c)
-
-pub put_poly-body : (reply : SwitchedReply) (e : ℕ) (a : Poly) → put_poly reply (e / reply.set.n + 1) (e % reply.set.n + 1) a ≡ record reply { body = slice_set reply.body e a }
-put_poly-body reply e a =
-    let place = place_in_body reply.set (e / reply.set.n + 1) (e % reply.set.n + 1) in
-    let masked : SwitchedReply = record reply { mask = slice_set reply.mask (e % reply.set.n + 1 - 1) a } in
-    let put : SwitchedReply = record reply { body = slice_set reply.body place a } in
-    row_of_body (e / reply.set.n) masked put
-    ∙ ap (λ (k : ℕ). let r : SwitchedReply = record reply { body = slice_set reply.body k a } in r) (entry_place reply.set e)
-
-pub row_modulus-body : (set : ParamSet) (r : ℕ) → row_modulus set (r + 1) ≡ q1 set
-row_modulus-body set r = row_of_body r (q2 set) (q1 set)
 
 pub row_modulus-most : (set : ParamSet) (row : ℕ) → IsSet set → row_modulus set row ≤ 2 ^ 30
 row_modulus-most set zero is = q2-most set is

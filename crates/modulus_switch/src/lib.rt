@@ -11,5 +11,5 @@ mod switch;
 mod tests;
 
 pub use open::open_matrix;
-pub use reply::Reply;
+pub use reply::{Reply, SwitchedPoly};
 pub use state::ClientState;

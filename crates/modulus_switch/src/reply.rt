@@ -12,11 +12,11 @@ use std::marker::Model;
 
 /// The numbers of one polynomial of a reply.
 #[derive(Debug, Drop)]
-struct Numbers {
+pub struct SwitchedPoly {
     items: Vec<u64>,
 }
 
-impl Model for Numbers {
+impl Model for SwitchedPoly {
     ghost use Rattle.spiral_model.specs.Words.{Poly};
 
     ghost Value = { Poly };
@@ -24,7 +24,14 @@ impl Model for Numbers {
     ghost view = { λ a. a.items.items };
 }
 
-impl Numbers {
+impl SwitchedPoly {
+    /// The polynomial of these numbers, from place 0.
+    pub fn from_numbers(items: Vec<u64>) -> SwitchedPoly
+        ensures { result ≡ items.items }
+    {
+        SwitchedPoly { items }
+    }
+
     /// Becomes these numbers, as many as it had.
     fn put(&mut self, numbers: &[u64])
         requires { length numbers.now ≡ length self.old }
@@ -55,9 +62,9 @@ pub struct Reply {
     count: u32,
     record_length: u32,
     /// rows 1 to n, row by row
-    body: Vec<Numbers>,
+    body: Vec<SwitchedPoly>,
     /// row 0
-    mask: Vec<Numbers>,
+    mask: Vec<SwitchedPoly>,
 }
 
 impl Model for Reply {
@@ -78,12 +85,12 @@ pub(crate) fn zeros(alloc: Global, count: usize) -> Result<Vec<u64>, NoMemory>
 }
 
 /// So many polynomials of zeros.
-fn zero_polys(alloc: Global, count: u32, degree: usize) -> Result<Vec<Numbers>, NoMemory>
+fn zero_polys(alloc: Global, count: u32, degree: usize) -> Result<Vec<SwitchedPoly>, NoMemory>
     ensures { IfOk result (λ v. v.items ≡ replicate count (replicate degree 0)) }
 {
     let mut polys = Vec::new(alloc);
     for _ in 0..count {
-        polys.push(Numbers {
+        polys.push(SwitchedPoly {
             items: zeros(alloc, degree)?,
         })?;
     }
@@ -104,6 +111,26 @@ fn body_place(set: &ParamSet, row: u32, column: u32) -> usize
 }
 
 impl Reply {
+    /// The reply of these polynomials: those of rows 1 to n, row by row, and those of row 0.
+    pub fn from_polys(
+        set: &ParamSet,
+        count: u32,
+        length: u32,
+        body: Vec<SwitchedPoly>,
+        mask: Vec<SwitchedPoly>,
+    ) -> Reply
+        requires { IsReply (record { set = set.now; count = count; record_length = length; body = body.items; mask = mask.items }) }
+        ensures { result ≡ record { set = set.now; count = count; record_length = length; body = body.items; mask = mask.items } }
+    {
+        Reply {
+            set: *set,
+            count,
+            record_length: length,
+            body,
+            mask,
+        }
+    }
+
     /// A reply whose numbers are all 0.
     pub fn zero(alloc: Global, set: &ParamSet, count: u32, length: u32) -> Result<Reply, NoMemory>
         requires known { IsSet set.now }

@@ -1,1 +1,7 @@
 pub mod Spelling
+pub mod Headers
+pub mod Pieces
+pub mod States
+pub mod Replies
+pub mod Queries
+pub mod WholeFrames

@@ -1,5 +1,5 @@
 -- Frames from the pieces that they are written in.
-use Rattle.std.proofs.Common.{◌≡◌, ◌<◌, ◌+◌, ℕ, List, [], ◌∷◌, ◌++◌, length, map, take, All, sym, ap, ◌∙◌, append-nil}
+use Rattle.std.proofs.Common.{◌≡◌, ◌<◌, ◌+◌, ℕ, List, [], ◌∷◌, ◌++◌, length, map, take, sym, ap, ◌∙◌, append-nil}
 use Rattle.std.specs.Int.{to_le_bytes, w64}
 use Rattle.std.specs.List.{flat_map}
 use Rattle.std.proofs.lemmas.List.{append_assoc, take_more}
@@ -8,8 +8,7 @@ use Rattle.negacyclic.proofs.Digits.{to_le_bytes-digits}
 use Rattle.spiral_sets.specs.Sets.{q1_bits}
 use Rattle.spiral_sets.specs.Counts.{state_len, reply_len}
 use Rattle.frame_headers.specs.Headers.{header, number}
-use Rattle.spiral_model.specs.Words.{Poly, Cipher, poly_of}
-use Rattle.spiral_model.specs.Bodies.{CipherBody, IsQuery}
+use Rattle.spiral_model.specs.Words.{Poly, poly_of}
 use Rattle.spiral_model.specs.Replies.{QueryState, SwitchedReply}
 use Rattle.spiral_frames.specs.Frames.{secret_byte, packed, state_body, reply_body, frame_of, state_message, reply_message, CanBeSent}
 use Rattle.spiral_frames.proofs.FrameLaws.{state_frame_is, reply_frame_is}

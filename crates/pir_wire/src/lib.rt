@@ -1,6 +1,7 @@
-//! Frames: messages as bytes.
+//! Frames: messages as bytes, and bytes as messages.
 #![tactic(auto)]
 
+mod decoding;
 mod encode;
 mod header;
 mod reply;
@@ -8,4 +9,5 @@ mod residues;
 #[cfg(test)]
 mod tests;
 
+pub use decoding::{FramedMessage, decode, reading_limit};
 pub use encode::{encode_query, encode_reply, encode_state};

@@ -1,11 +1,11 @@
 -- Laws of the bodies of frames: their lengths, and what their numbers tell.
-use Rattle.std.proofs.Common.{◌≡◌, ℕ, suc, ℤ, ◌+◌, ◌*◌, ◌^◌, ◌<◌, ◌≤◌, List, [], ◌∷◌, ◌++◌, length, get_or, take, drop, map, pos, ◌-ℤ◌, All, refl, sym, ◌∙◌, ap, arith, true, false, length-append, lit<}
+use Rattle.std.proofs.Common.{◌≡◌, ℕ, suc, ℤ, ◌+◌, ◌*◌, ◌^◌, ◌<◌, ◌≤◌, List, [], ◌∷◌, ◌++◌, length, get_or, take, drop, map, All, refl, sym, ◌∙◌, ap, arith, true, false, length-append, lit<}
 use Rattle.std.proofs.lemmas.Int.{ints}
 use Rattle.std.specs.List.{flat_map}
 use Rattle.std.proofs.lemmas.List.{append_assoc, length-map, drop-drop, take-append-drop}
 use Rattle.std.proofs.lemmas.List.Elements.{All-map}
-use Rattle.negacyclic.specs.Digits.{number_of, repacked}
-use Rattle.negacyclic.proofs.Digits.{length-digits, length-repacked, repacked-back}
+use Rattle.negacyclic.specs.Digits.{number_of}
+use Rattle.negacyclic.proofs.Digits.{length-digits, length-repacked}
 use Rattle.spiral_sets.specs.declared.param_set.ParamSet.{ParamSet}
 use Rattle.spiral_sets.specs.Sets.{entries, q1_bits, max_records, capacity, rows}
 use Rattle.spiral_sets.specs.Counts.{packed_len, state_len, reply_len, query_len, query_ciphertexts, ciphertext_count}
@@ -21,7 +21,7 @@ use Rattle.spiral_frames.specs.Frames.{secret_byte, state_body, packed, reply_bo
 
 -- ---- ciphertexts
 
-length-poly_bytes : (poly : Poly) → length (poly_bytes poly) ≡ 7 * length poly
+pub length-poly_bytes : (poly : Poly) → length (poly_bytes poly) ≡ 7 * length poly
 length-poly_bytes [] = refl
 length-poly_bytes (x ∷ xs) = omega (arith, length-append (number 7 x) (poly_bytes xs), length-digits 256 7 x, length-poly_bytes xs)
 
@@ -32,7 +32,7 @@ length-rows_bytes N (row ∷ rows) each =
     let rest = length-rows_bytes N rows (λ i h. each (suc i) (omega arith)) in
     omega (arith, length-append (poly_bytes row) (rows_bytes rows), length-poly_bytes row, ap (λ (k : ℕ). 7 * k) first, rest)
 
-rows_of_cipher : (N m : ℕ) (cipher : Cipher) → IsCipher N m cipher → length (rows_bytes cipher) ≡ (m + 1) * (7 * N)
+pub rows_of_cipher : (N m : ℕ) (cipher : Cipher) → IsCipher N m cipher → length (rows_bytes cipher) ≡ (m + 1) * (7 * N)
 rows_of_cipher N m cipher is =
     length-rows_bytes N cipher (λ i h. (is.residues i [] h).0) ∙ ap (λ (k : ℕ). k * (7 * N)) is.rows_count
 
@@ -45,7 +45,7 @@ length-cipher_bytes N m (cipher ∷ ciphers) each =
     let rest = length-cipher_bytes N m ciphers (λ i d h. each (suc i) d (omega arith)) in
     omega (arith, length-append (rows_bytes cipher) (flat_map rows_bytes ciphers), first, rest)
 
-query_bytes : (set : ParamSet) → ciphertext_count (query_ciphertexts set) * ((query_rows set + 1) * (7 * set.degree)) ≡ query_len set
+pub query_bytes : (set : ParamSet) → ciphertext_count (query_ciphertexts set) * ((query_rows set + 1) * (7 * set.degree)) ≡ query_len set
 query_bytes set = elim set.direct as (λ direct. ciphertext_count (query_ciphertexts (record set { direct = direct })) * ((query_rows (record set { direct = direct }) + 1) * (7 * set.degree)) ≡ query_len (record set { direct = direct })) [
   | true ↦ omega arith
   | false ↦ omega arith
@@ -125,6 +125,12 @@ record_length_in_body reply is =
     rw (reply_body_parts reply, behind_number 8 reply.count (number 8 reply.record_length ++ packed_polys reply))
     (number_at_front 8 reply.record_length (packed_polys reply) (record_length_fits reply is))
 
+-- the polynomials stand behind both numbers
+pub polys_in_body : (reply : SwitchedReply) → drop 16 (reply_body reply) ≡ packed_polys reply
+polys_in_body reply =
+    sym (drop-drop 8 8 (reply_body reply))
+    ∙ rw (reply_body_parts reply, behind_number 8 reply.count (number 8 reply.record_length ++ packed_polys reply)) (behind_number 8 reply.record_length (packed_polys reply))
+
 pub length-reply_body : (reply : SwitchedReply) → IsReply reply → length (reply_body reply) ≡ reply_len reply.set
 length-reply_body reply is =
     let set : ParamSet = reply.set in
@@ -141,14 +147,6 @@ reply_body_is reply body count record_length polys =
     let rest : drop 8 body ≡ number 8 reply.record_length ++ packed_polys reply =
     sym (take-append-drop 8 (drop 8 body)) ∙ rw (record_length, drop-drop, polys) refl in
     sym (take-append-drop 8 body) ∙ rw (count, rest) (sym (reply_body_parts reply))
-
--- bytes of the packed length, cut into N numbers, are those numbers packed
-pub packed_back : (set : ParamSet) (width : ℕ) (bytes : List ℕ) → 8 * packed_len set width ≡ set.degree * width
-    → All (λ b. b < 2 ^ 8) bytes → length bytes ≡ packed_len set width
-    → packed set width (repacked 8 width set.degree bytes) ≡ bytes
-packed_back set width bytes whole below e =
-    let room : 8 * length bytes ≤ width * set.degree = omega arith in
-    rw (← e) (repacked-back 8 width set.degree bytes below room)
 
 -- ---- the body of a Database
 

@@ -2,12 +2,11 @@
 use Rattle.std.proofs.Common.{◌≡◌, ℕ, ◌+◌, ◌<◌, ◌≤◌, ◌↔◌, List, ◌++◌, length, get_or, take, drop, sym, ◌∙◌, ap, arith, length-append, length-take}
 use Rattle.std.proofs.lemmas.List.{take_all}
 use Rattle.negacyclic.specs.Digits.{number_of}
-use Rattle.spiral_sets.specs.declared.param_set.ParamSet.{ParamSet}
 use Rattle.spiral_sets.specs.Sets.{IsSet, name_of}
 use Rattle.spiral_sets.specs.Counts.{query_len, state_len, reply_len}
 use Rattle.spiral_sets.proofs.SetNames.{same_from_name}
 use Rattle.frame_headers.specs.declared.kind.FrameKind.{FrameKind}
-use Rattle.frame_headers.specs.declared.kind.FrameKind.TheVariants.{Query, Reply, State}
+use Rattle.frame_headers.specs.declared.kind.FrameKind.TheVariants.{Reply, State}
 use Rattle.frame_headers.specs.Kinds.{code_of_kind}
 use Rattle.frame_headers.specs.Headers.{header}
 use Rattle.frame_headers.proofs.HeaderLaws.{length-header, name_in_front, same_front}
@@ -35,9 +34,6 @@ pub database_frame_is : (table : RecordTable) → frame_of (database_message tab
 database_frame_is table = frame_is (database_message table) (16 + length table.bytes) (length-database_body table)
 
 -- bytes that are one frame, by their parts
-pub frame_of_query : (bytes : List ℕ) (query : CipherBody) → IsOne Query bytes (query_message query) → bytes ≡ header 2 query.set (query_len query.set) ++ cipher_bytes query.ciphers
-frame_of_query bytes query is = is.spells.spelled ∙ query_frame_is query is.spells.fits
-
 pub frame_of_state : (bytes : List ℕ) (state : QueryState) → IsOne State bytes (state_message state) → bytes ≡ header 5 state.set (state_len state.set) ++ state_body state
 frame_of_state bytes state is = is.spells.spelled ∙ state_frame_is state is.spells.fits
 
@@ -66,7 +62,7 @@ reply_count_is x r u hr hu =
     sym (count_in_body r fr) ∙ ap (λ (body : List ℕ). number_of 256 (take 8 body)) bodies.1 ∙ count_in_body u fu
 
 -- a message is of a known set
-known_of : (m : Message) → CanBeSent m → IsSet (set_of_message m)
+pub known_of : (m : Message) → CanBeSent m → IsSet (set_of_message m)
 known_of (setup_message keys) fits = fits.1.known
 known_of (query_message query) fits = fits.1.known
 known_of (reply_message reply) fits = fits.1.known

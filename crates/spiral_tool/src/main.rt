@@ -1,29 +1,14 @@
 //! The program: private information retrieval by commands over files.
 #![tactic(auto)]
 
-mod answer;
-mod ask;
-mod frames;
-mod header;
-mod input;
-mod open;
-mod output;
-mod prepare;
-mod query_frame;
-mod reply_frame;
-mod run;
-mod source;
-mod state_frame;
-mod status;
-mod words;
-
-use crate::status::Status;
 use pir_io::{HostFiles, OpenGate, OutSink, SoundNet};
 use std::alloc::Global;
 use std::env;
 use std::io::{self, ErrorKind};
 use std::process::ExitCode;
 use std::rt::Env;
+use tool_base::Status;
+use tool_run::run;
 
 // The words behind the program's name.
 fn command_words(rt: &(impl Env + AllocGlobal), alloc: Global) -> io::Result<Vec<String>> {
@@ -47,18 +32,7 @@ fn main(rt: HostRuntime) -> ExitCode {
     let mut files = HostFiles::new(&rt, alloc);
     let mut net = SoundNet::new(alloc, Vec::new(alloc), 1);
     let mut sink = OutSink::new(&rt, alloc);
-    ExitCode::from(run::run(
+    ExitCode::from(run(
         &rt, alloc, &words, &mut files, &mut net, &OpenGate, &mut sink,
     ))
 }
-
-#[cfg(test)]
-mod answer_tests;
-#[cfg(test)]
-mod ask_tests;
-#[cfg(test)]
-mod prepare_tests;
-#[cfg(test)]
-mod source_tests;
-#[cfg(test)]
-mod tests;

@@ -1,0 +1,17 @@
+ghost use Rattle.std.specs.Prelude.{IfSome, IfNone};
+ghost use Rattle.spiral_model.specs.Sets.{IsSet};
+ghost use Rattle.tool_base.specs.Names.{Names, NamesNone};
+
+use spiral_sets::{ParamSet, set_named};
+
+/// The set of that name that this program handles; `None` exactly where there is none.
+pub fn built_set(name: &str) -> Option<ParamSet>
+    ensures known { IfSome result IsSet }
+    ensures found { IfSome result (Names name.now) }
+    ensures none { IfNone result (NamesNone name.now) }
+{
+    match set_named(name) {
+        Some(set) if set.built() => Some(set),
+        _ => None,
+    }
+}

@@ -1,0 +1,53 @@
+ghost use Rattle.std.specs.Prelude.{◌≡◌};
+ghost use Rattle.tool_base.specs.Statuses.{number_of_status};
+
+/// How a command ended.
+#[derive(Clone, Copy, Debug, PartialEq, Eq)]
+pub enum Status {
+    /// What the command promises stands.
+    Done,
+    /// Memory was wanting.
+    NoMemory,
+    /// The words fit no command's form.
+    Usage,
+    /// The name is that of no set that this program handles.
+    UnknownSet,
+    /// The index isn't below the count of records that the set has at most.
+    IndexRange,
+    /// The source holds fewer words than are needed.
+    WordsShort,
+    /// A file couldn't be read or written.
+    FileFault,
+    /// An input file isn't the one frame that is expected there.
+    BadFrame,
+    /// The reply is of another set than the state.
+    WrongSet,
+    /// The asked index isn't below the count of records.
+    Absent,
+    /// The bytes of an input aren't the records of a database.
+    BadRecords,
+    /// The line couldn't be put.
+    SinkFault,
+}
+
+impl Status {
+    /// The status that the program ends with.
+    pub fn number(self) -> u8
+        ensures { result ≡ number_of_status self }
+    {
+        match self {
+            Status::Done => 0,
+            Status::NoMemory => 1,
+            Status::Usage => 2,
+            Status::UnknownSet => 3,
+            Status::IndexRange => 4,
+            Status::WordsShort => 5,
+            Status::FileFault => 7,
+            Status::BadFrame => 9,
+            Status::WrongSet => 10,
+            Status::Absent => 11,
+            Status::BadRecords => 13,
+            Status::SinkFault => 14,
+        }
+    }
+}

@@ -1,0 +1,70 @@
+ghost use Rattle.std.specs.Prelude.{ℕ, map, string_bytes, MatchOption};
+ghost use Rattle.tool_base.specs.Words.{Gives, IsNumber, IsWorkers};
+
+mod answering;
+mod asking;
+mod opening;
+mod preparing;
+
+pub use answering::Answer;
+pub use asking::Ask;
+pub use opening::Open;
+pub use preparing::Prepare;
+
+/// How many workers a command may ask for at most.
+const MOST_WORKERS: u32 = 64;
+
+/// What a command line asks for.
+#[derive(Clone, Copy, Debug)]
+pub enum Command<'a> {
+    /// `prepare SET LENGTH INPUT DB`: makes a database of records.
+    Prepare(Prepare<'a>),
+    /// `ask SET INDEX WORDS STATE SETUP QUERY`: makes a query, its setup and the state that opens the reply.
+    Ask(Ask<'a>),
+    /// `answer DB SETUP QUERY REPLY WORKERS`: answers a query from a database.
+    Answer(Answer<'a>),
+    /// `open STATE REPLY OUT`: opens a reply by a state and writes the record.
+    Open(Open<'a>),
+}
+
+// The number below 2^32 that a word is in plain decimal; `None` exactly where it is none.
+fn plain_number(word: &str) -> Option<u32>
+    ensures { MatchOption result ((number : ℕ) → IsNumber word.now number → ⊥) (λ number. IsNumber word.now number) }
+{
+    // `parse` takes a plus and leading zeros too.
+    if word.starts_with('+') {
+        return None;
+    }
+    if word.starts_with('0') && word.len() > 1 {
+        return None;
+    }
+    word.parse::<u32>().ok()
+}
+
+// The number of workers, 1 to 64, that a word is in plain decimal; `None` exactly where it is none.
+fn worker_number(word: &str) -> Option<u32>
+    ensures { MatchOption result ((number : ℕ) → IsWorkers word.now number → ⊥) (λ number. IsWorkers word.now number) }
+{
+    match plain_number(word) {
+        Some(number) if number >= 1 && number <= MOST_WORKERS => Some(number),
+        _ => None,
+    }
+}
+
+impl<'a> Command<'a> {
+    /// The command that the words give; `None` exactly where they fit no command's form.
+    pub fn from_words(words: &'a [String]) -> Option<Command<'a>>
+        ensures { Gives result (map string_bytes words.now) }
+    {
+        let [name, args @ ..] = words else {
+            return None;
+        };
+        match name.as_str() {
+            "prepare" => Some(Command::Prepare(Prepare::from_args(args)?)),
+            "ask" => Some(Command::Ask(Ask::from_args(args)?)),
+            "answer" => Some(Command::Answer(Answer::from_args(args)?)),
+            "open" => Some(Command::Open(Open::from_args(args)?)),
+            _ => None,
+        }
+    }
+}

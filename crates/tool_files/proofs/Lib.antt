@@ -1,0 +1,6 @@
+pub mod SourceWords
+pub mod Unread
+pub mod Asking
+pub mod Preparing
+pub mod Answering
+pub mod CommandsTell

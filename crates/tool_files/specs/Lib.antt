@@ -1,0 +1,10 @@
+pub mod Inputs
+pub mod Reading
+pub mod Refusing
+pub mod RandomWords
+pub mod Reasons
+pub mod Prepare
+pub mod Ask
+pub mod AskedFrames
+pub mod Answer
+pub mod Open

@@ -1,0 +1,24 @@
+-- How a command ends whose input gave nothing to go on with.
+use Rattle.std.specs.Prelude.{◌≡◌}
+use Rattle.pir_io.specs.Sink.{SinkSeen}
+use Rattle.tool_base.specs.declared.status.Status.{Status}
+use Rattle.tool_base.specs.declared.status.Status.TheVariants.{NoMemory, FileFault, BadFrame}
+use Rattle.tool_base.specs.Texts.{file_fault_line, bad_frame_line}
+use Rattle.tool_base.specs.Puts.{GotNothing, Refused}
+use Rattle.tool_files.specs.declared.input.InputError.{InputError}
+use Rattle.tool_files.specs.declared.input.InputError.TheVariants as input
+use Rattle.record_store.specs.declared.storing.DbError.{DbError}
+use Rattle.record_store.specs.declared.storing.DbError.TheVariants as db
+use Rattle.spiral_frames.specs.Refusals.{code_of, place_of}
+
+-- an input gave no message
+abbrev pub InputRefused : SinkSeen → SinkSeen → InputError → Status → Type 0
+InputRefused old new input.File status = Refused old new FileFault file_fault_line status
+InputRefused old new input.Frame status = (status ≡ BadFrame) × GotNothing old new
+InputRefused old new input.NoMemory status = (status ≡ NoMemory) × GotNothing old new
+
+-- the first input, a database, couldn't be read
+abbrev pub DatabaseRefused : SinkSeen → SinkSeen → DbError → Status → Type 0
+DatabaseRefused old new (db.Frame error) status = Refused old new BadFrame (bad_frame_line 1 (code_of error) (place_of error)) status
+DatabaseRefused old new db.File status = Refused old new FileFault file_fault_line status
+DatabaseRefused old new db.NoMemory status = (status ≡ NoMemory) × GotNothing old new

@@ -1,0 +1,18 @@
+//! The commands over files: making a database, asking, answering, opening.
+#![tactic(auto)]
+
+mod answer;
+mod ask;
+mod frames;
+mod input;
+mod open;
+mod prepare;
+mod random_words;
+#[cfg(test)]
+mod random_words_tests;
+mod refusals;
+
+pub use answer::answer_files;
+pub use ask::ask_files;
+pub use open::open_files;
+pub use prepare::prepare_files;
