@@ -4,9 +4,6 @@
 ghost use Rattle.std.specs.Prelude.{◌≡◌, ◌+◌, ◌*◌, ◌<◌, ◌≤◌, ◌^◌, length, take, All};
 ghost use Rattle.negacyclic.specs.Digits.{digit, number_of, repacked};
 
-#[cfg(test)]
-mod tests;
-
 /// The widest value, in bits.
 pub const MAX_WIDTH: u32 = 32;
 

@@ -9,6 +9,3 @@ mod records;
 
 pub use columns::products;
 pub use prepared::Prepared;
-
-#[cfg(test)]
-mod tests;

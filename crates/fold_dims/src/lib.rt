@@ -8,8 +8,6 @@ ghost use Rattle.regev_code.specs.Products.{HasShape};
 ghost use Rattle.gsw_code.specs.Products.{IsGsw};
 
 mod steps;
-#[cfg(test)]
-mod tests;
 
 use crate::steps::fold_all;
 use gsw_code::Gsw;

@@ -8,6 +8,3 @@ mod kind;
 pub use frame_error::FrameError;
 pub use header::{HeaderRead, number_at, push_header, read_header};
 pub use kind::FrameKind;
-
-#[cfg(test)]
-mod tests;

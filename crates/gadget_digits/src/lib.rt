@@ -8,9 +8,6 @@ ghost use Rattle.spiral_sets.specs.Sets.{q, digit_count as digit_count_of};
 
 pub use spiral_sets::digit_count;
 
-#[cfg(test)]
-mod tests;
-
 /// Digit k of x: floor(x / 2^(w k)) mod 2^w. Since w k is at most 55, the shift is in range.
 fn digit_of(x: u64, w: u32, k: u32) -> u64
     requires some { 1 ≤ w }

@@ -6,8 +6,6 @@ mod messages;
 mod opening;
 mod query;
 mod state;
-#[cfg(test)]
-mod tests;
 
 pub use asking::{AskError, Asked, ask};
 pub use opening::{OpenError, open};

@@ -1,10 +1,10 @@
 -- One polynomial of a reply put: an entry of the body, or one of row 0.
-use Rattle.std.proofs.Common.{◌≡◌, ℕ, ◌+◌, ◌-◌, ◌*◌, ◌/◌, ◌%◌, ◌<◌, ◌≤◌, ◌≢◌, ◌==◌, if◌then◌else◌, Bool, false, List, [], length, get_or, set, map, refl, sym, ◌∙◌, ap, arith, ne_eqb}
+use Rattle.std.proofs.Common.{◌≡◌, ℕ, ◌+◌, ◌-◌, ◌*◌, ◌/◌, ◌%◌, ◌<◌, ◌≢◌, ◌==◌, if◌then◌else◌, Bool, false, List, [], length, get_or, set, map, ◌∙◌, ap, arith, ne_eqb}
 use Rattle.std.proofs.lemmas.List.{get_or_read}
 use Rattle.spiral_sets.specs.declared.param_set.ParamSet.{ParamSet}
-use Rattle.spiral_model.specs.Sets.{entries, q1, q2}
+use Rattle.spiral_model.specs.Sets.{q1, q2}
 use Rattle.spiral_model.specs.Words.{Poly, Cipher, row_of, cipher_at}
-use Rattle.spiral_model.specs.Replies.{SwitchedReply, switched, switched_entry, switched_zeroth, switched_body, switched_mask}
+use Rattle.spiral_model.specs.Replies.{SwitchedReply, switched, switched_entry, switched_zeroth}
 use Rattle.modulus_switch.specs.Places.{place_in_body, put_poly, row_modulus}
 
 -- row e / n + 1 and column e % n + 1 stand at place e of the body

@@ -4,7 +4,5 @@
 mod answering;
 mod folding;
 mod server;
-#[cfg(test)]
-mod tests;
 
 pub use server::Server;

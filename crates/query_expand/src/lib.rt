@@ -2,7 +2,5 @@
 #![tactic(auto)]
 
 mod made_ready;
-#[cfg(test)]
-mod tests;
 
 pub use made_ready::ready;

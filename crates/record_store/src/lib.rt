@@ -6,8 +6,6 @@ mod decoding;
 mod encoding;
 mod preparing;
 mod storing;
-#[cfg(test)]
-mod tests;
 
 pub use database::Database;
 pub use preparing::{PrepareError, check_length, prepare};

@@ -6,8 +6,6 @@ mod convolution;
 mod poly;
 mod product;
 mod ring;
-#[cfg(test)]
-mod tests;
 
 pub use coefficients::are_residues;
 pub use poly::Poly;

@@ -8,6 +8,3 @@ mod sets;
 pub use dimensions::{Q, digit_count};
 pub use param_set::ParamSet;
 pub use sets::{set_at, set_named};
-
-#[cfg(test)]
-mod tests;

@@ -1,8 +1,8 @@
--- The ends of a command, from what the calls that make them promise.
-use Rattle.std.proofs.Common.{ℕ, List, [], ◌∷◌, ◌≡◌, ◌<◌, length, Ok, Err, inl, inr, refl, subst}
+-- A command step by step and its ends, from what the calls that make them promise.
+use Rattle.std.proofs.Common.{ℕ, List, [], ◌∷◌, ◌≡◌, ◌<◌, ◌⊎◌, length, Ok, Err, inl, inr, refl, subst}
 use Rattle.pir_io.specs.declared.fault.IoFault.TheVariants.{Failed, NoMemory as out_of_memory}
 use Rattle.pir_io.specs.Files.{FilesSeen}
-use Rattle.pir_io.specs.Reading.{WritesFile}
+use Rattle.pir_io.specs.Reading.{OnlyRead}
 use Rattle.pir_io.specs.Sink.{SinkSeen}
 use Rattle.tool_base.specs.declared.status.Status.{Status}
 use Rattle.tool_base.specs.declared.status.Status.TheVariants.{NoMemory, FileFault}
@@ -11,6 +11,28 @@ use Rattle.tool_base.specs.Puts.{Finishes, Refused}
 use Rattle.tool_base.specs.Outputs.{Output, WritesOutputs, one}
 use Rattle.tool_base.specs.Steps.{Scene, scene, write}
 use Rattle.tool_base.proofs.WritingAll.{failed_is_stopped, all_is_stopped}
+
+-- ---- a command's course, step by step, each from what the call that makes it promises
+
+-- a file was read, with this outcome
+pub behind : {old now : FilesSeen} {Outcome : FilesSeen → Type 0} → OnlyRead old now → Outcome now → (n : FilesSeen) × OnlyRead old n × Outcome n
+behind {now = now} only outcome = (now, only, outcome)
+
+-- its bytes are this, and so it goes on
+pub found : {A Unread : Type 0} {Is Rest : A → Type 0} (x : A) → Is x → Rest x → Unread ⊎ ((y : A) × Is y × Rest y)
+found x is rest = inr (x, is, rest)
+
+-- what is needed holds, or it doesn't and the command is refused
+pub held : {Holds Refused Rest : Type 0} → Holds → Rest → Refused ⊎ (Holds × Rest)
+held holds rest = inr (holds, rest)
+
+abbrev pub Both : Type 0 → Type 0 → Type 0
+Both A B = A × B
+
+pub denied : {Not Same Refusal Further : Type 0} → Not → Same → Refusal → (Not × Both Same Refusal) ⊎ Further
+denied not same refusal = inl (not, (same, refusal))
+
+-- ---- its ends
 
 module _ (old new : FilesSeen) (so sn : SinkSeen) (outputs : List Output) (some : 0 < length outputs) where
   -- all were written, and the line was to be put

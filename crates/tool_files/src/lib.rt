@@ -8,8 +8,6 @@ mod input;
 mod open;
 mod prepare;
 mod random_words;
-#[cfg(test)]
-mod random_words_tests;
 mod refusals;
 
 pub use answer::answer_files;

@@ -1,4 +1,4 @@
-use Rattle.std.proofs.Common.{ℕ, ◌≡◌, ◌<◌, ◌∙◌, length, inl, inr, refl, ap, sym, subst, arith}
+use Rattle.std.proofs.Common.{ℕ, ◌≡◌, ◌<◌, ◌∙◌, length, inl, refl, ap, sym, subst, arith}
 use Rattle.pir_io.specs.Files.{content_of}
 use Rattle.spiral_sets.specs.declared.param_set.ParamSet.{ParamSet}
 use Rattle.spiral_model.specs.Sets.{IsBuilt, max_records}
@@ -7,80 +7,44 @@ use Rattle.tool_base.specs.Sources.{source_seen, source_name}
 use Rattle.tool_base.specs.Steps.{scene}
 use Rattle.tool_base.specs.Texts.{index_range_line, words_short_line}
 use Rattle.tool_base.specs.Words.{ask_seen}
-use Rattle.tool_base.proofs.Courses.{refused_as, write_as}
+use Rattle.tool_base.proofs.Courses.{behind, found, held, denied, refused_as, write_as}
 use Rattle.tool_files.specs.RandomWords.{words_given}
 use Rattle.tool_files.proofs.Asking.{set_of_asked, outputs_are, line_is}
 use Rattle.tool_files.proofs.ask.ask_files.Goals as goal
 
 pub returns-in_default : goal.returns-in_default
-returns-in_default g c = inl (c.in_default.ensures.none, (refl, c.refuse.ensures))
+returns-in_default g c = denied c.in_default.ensures.none refl c.refuse.ensures
 
 pub returns-then-from-bound : goal.returns-then-from-bound
 returns-then-from-bound g c =
-    inr (
-      c.in-Some.set,
-      c.in-Some.ensures.found,
-      inl (
-        (λ below. omega (arith, below, c.max_records-bound.ensures)),
-        (refl, refused_as _ _ _ _ _ _ (ap (index_range_line c.args.ask.now.index) c.max_records-bound.ensures) (c.refuse_by_text.ensures _ c.index_range_text-text.ensures)),
-      ),
-    )
+    found c.in-Some.set c.in-Some.ensures.found (denied (λ below. omega (arith, below, c.max_records-bound.ensures)) refl
+    (refused_as _ _ _ _ _ _ (ap (index_range_line c.args.ask.now.index) c.max_records-bound.ensures) (c.refuse_by_text.ensures _ c.index_range_text-text.ensures)))
 
 pub returns-in-Err-Failed : goal.returns-in-Err-Failed
 returns-in-Err-Failed g c =
     let reads = rw c.in-Err-Failed.field-0-is at c.in-Err-Failed.ensures in
     let below : c.args.ask.now.index < max_records c.in-Some.set = omega arith in
-    inr (c.in-Some.set, c.in-Some.ensures.found, inr (below, (_, c.read_words.ensures.only, inl (inl (reads.failed refl, (refl, c.refuse-in-Err-Failed.ensures))))))
+    found c.in-Some.set c.in-Some.ensures.found (held below (behind c.read_words.ensures.only (inl (inl (reads.failed refl, (refl, c.refuse-in-Err-Failed.ensures))))))
 
 pub returns-then-len-needed : goal.returns-then-len-needed
 returns-then-len-needed g c =
     let below : c.args.ask.now.index < max_records c.in-Some.set = omega arith in
-    let held : c.len-then-len-needed.result ≡ length c.in-Ok.words.items = omega (arith, c.len-then-len-needed.ensures, c.in-Ok.words.ok) in
+    let held_is : c.len-then-len-needed.result ≡ length c.in-Ok.words.items = omega (arith, c.len-then-len-needed.ensures, c.in-Ok.words.ok) in
     let less : c.len-then-len-needed.result < c.words_needed-needed.result = omega (arith, c.len-then-len-needed.ensures, c.len.ensures, c.if-len-needed.true) in
     let line : words_short_line c.words_needed-needed.result c.len-then-len-needed.result ≡ words_short_line (words_needed c.in-Some.set) (length c.in-Ok.words.items) =
-    ap (λ n. words_short_line n c.len-then-len-needed.result) c.words_needed-needed.ensures ∙ ap (words_short_line (words_needed c.in-Some.set)) held in
-    inr (
-      c.in-Some.set,
-      c.in-Some.ensures.found,
-      inr (
-        below,
-        (
-          _,
-          c.read_words.ensures.only,
-          inr (
-            c.in-Ok.words.items,
-            (λ told. c.in-Ok.ensures.given told ∙ ap (λ (n : ℕ). words_given (source_seen c.args.ask.now.source) (content_of (g.F.Files.seen c.args.files.now) (source_name (source_seen c.args.ask.now.source))) n) c.words_needed-needed.ensures),
-            inl ((λ enough. omega (arith, enough, held, less, c.words_needed-needed.ensures)), (refl, refused_as _ _ _ _ _ _ line (c.refuse_by_text-then-len-needed.ensures _ c.words_short_text-text.ensures))),
-          ),
-        ),
-      ),
-    )
+    ap (λ n. words_short_line n c.len-then-len-needed.result) c.words_needed-needed.ensures ∙ ap (words_short_line (words_needed c.in-Some.set)) held_is in
+    found c.in-Some.set c.in-Some.ensures.found (held below (behind c.read_words.ensures.only (found c.in-Ok.words.items
+    (λ told. c.in-Ok.ensures.given told ∙ ap (λ (n : ℕ). words_given (source_seen c.args.ask.now.source) (content_of (g.F.Files.seen c.args.files.now) (source_name (source_seen c.args.ask.now.source))) n) c.words_needed-needed.ensures)
+    (denied (λ enough. omega (arith, enough, held_is, less, c.words_needed-needed.ensures)) refl (refused_as _ _ _ _ _ _ line (c.refuse_by_text-then-len-needed.ensures _ c.words_short_text-text.ensures))))))
 
 pub write_asked-requires : goal.write_asked-requires
-write_asked-requires g c =
-    subst (λ (set : ParamSet). IsBuilt set) (sym (set_of_asked _ _ _ c.in-Ok-ask.asked c.in-Ok-ask.ensures.asks.2)) c.in-Some.ensures.found.built
+write_asked-requires g c = subst (λ (set : ParamSet). IsBuilt set) (sym (set_of_asked _ _ _ c.in-Ok-ask.asked c.in-Ok-ask.ensures.asks.2)) c.in-Some.ensures.found.built
 
 pub returns : goal.returns
 returns g c =
     let asks = c.in-Ok-ask.ensures.asks in
     let below : c.args.ask.now.index < max_records c.in-Some.set = asks.0 in
-    inr (
-      c.in-Some.set,
-      c.in-Some.ensures.found,
-      inr (
-        below,
-        (
-          _,
-          c.read_words.ensures.only,
-          inr (
-            c.deref.result.now,
-            (λ told. c.deref.ensures.value ∙ c.in-Ok.ensures.given told ∙ ap (λ (n : ℕ). words_given (source_seen c.args.ask.now.source) (content_of (g.F.Files.seen c.args.files.now) (source_name (source_seen c.args.ask.now.source))) n) c.words_needed-needed.ensures),
-            inr (
-              asks.1,
-              write_as _ _ _ _ (scene (g.F.Files.seen c.read_words.new.files) (g.F.Files.seen c.write_asked.new.files) (g.O.Sink.seen c.args.sink.now) (g.O.Sink.seen c.write_asked.new.sink)) c.write_asked.result
-                  (outputs_are (ask_seen c.args.ask.now) c.in-Some.set c.deref.result.now c.in-Ok-ask.asked asks.2) (line_is (ask_seen c.args.ask.now) c.in-Some.set c.deref.result.now c.in-Ok-ask.asked asks.2) c.write_asked.ensures,
-            ),
-          ),
-        ),
-      ),
-    )
+    found c.in-Some.set c.in-Some.ensures.found (held below (behind c.read_words.ensures.only (found c.deref.result.now
+    (λ told. c.deref.ensures.value ∙ c.in-Ok.ensures.given told ∙ ap (λ (n : ℕ). words_given (source_seen c.args.ask.now.source) (content_of (g.F.Files.seen c.args.files.now) (source_name (source_seen c.args.ask.now.source))) n) c.words_needed-needed.ensures)
+    (held asks.1 (write_as _ _ _ _ (scene (g.F.Files.seen c.read_words.new.files) (g.F.Files.seen c.write_asked.new.files) (g.O.Sink.seen c.args.sink.now) (g.O.Sink.seen c.write_asked.new.sink)) c.write_asked.result
+    (outputs_are (ask_seen c.args.ask.now) c.in-Some.set c.deref.result.now c.in-Ok-ask.asked asks.2) (line_is (ask_seen c.args.ask.now) c.in-Some.set c.deref.result.now c.in-Ok-ask.asked asks.2) c.write_asked.ensures)))))

@@ -1,0 +1,19 @@
+//! Tests that cross crates: each public call once, with ample memory, and what no clause says.
+#![tactic(auto)]
+
+#[cfg(test)]
+mod client;
+#[cfg(test)]
+mod commands;
+#[cfg(test)]
+mod fixtures;
+#[cfg(test)]
+mod frames;
+#[cfg(test)]
+mod names;
+#[cfg(test)]
+mod polynomials;
+#[cfg(test)]
+mod records;
+#[cfg(test)]
+mod server;
