@@ -2,4 +2,3 @@ pub mod Widths
 pub mod ColumnMessages
 pub mod Columns
 pub mod Products
-pub mod TestShapes

@@ -5,10 +5,6 @@ mod encrypt;
 mod gsw;
 mod messages;
 mod product;
-#[cfg(test)]
-mod product_tests;
-#[cfg(test)]
-mod tests;
 
 pub use encrypt::encrypt_bit;
 pub use gsw::{Gsw, Ready, forms_of};

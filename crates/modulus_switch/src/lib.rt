@@ -7,8 +7,6 @@ mod reply;
 mod rounding;
 mod state;
 mod switch;
-#[cfg(test)]
-mod tests;
 
 pub use open::open_matrix;
 pub use reply::{Reply, SwitchedPoly};

@@ -32,6 +32,3 @@ pub use sound_files::SoundFiles;
 pub use sound_net::SoundNet;
 pub use sound_sink::SoundSink;
 pub use whole_files::{PIECE, read_front, write_file};
-
-#[cfg(test)]
-mod tests;

@@ -15,8 +15,6 @@ mod query;
 mod reply;
 mod residues;
 mod state;
-#[cfg(test)]
-mod tests;
 
 use header::read_header;
 pub use header::reading_limit;

@@ -6,8 +6,6 @@ mod encode;
 mod header;
 mod reply;
 mod residues;
-#[cfg(test)]
-mod tests;
 
 pub use decoding::{FramedMessage, decode, reading_limit};
 pub use encode::{encode_query, encode_reply, encode_state};

@@ -13,8 +13,6 @@ mod room;
 mod sampling;
 mod secret;
 mod seeded;
-#[cfg(test)]
-mod tests;
 
 pub use bodies::{KeyBody, QueryBody};
 pub use checks::is_cipher;

@@ -1,7 +1,10 @@
-//! The client's two calls.
-use crate::frames::{EDGE_256, edge_query};
-use modulus_switch::Reply;
+//! The client's two calls, and the readers of frames.
+use crate::frames::{EDGE, EDGE_256, edge_query, edge_reply, state_frame};
+use frame_headers::FrameKind;
+use modulus_switch::{ClientState, Reply};
 use pir_client::{AskError, OpenError, ask, open};
+use pir_wire::{decode, reading_limit};
+use regev_code::QueryBody;
 use spiral_sets::set_at;
 use std::test::Fail;
 
@@ -27,6 +30,31 @@ fn a_record_is_asked_for_and_opened(rt: HostRuntime) -> Result<(), Fail> {
     let record = open(alloc, &asked.state, &reply)?;
     assert_eq!(rt; record.as_slice(), [0, 0, 0].as_slice());
     Ok(())
+}
+
+#[test]
+fn frames_are_read(rt: HostRuntime) -> Result<(), Fail> {
+    let alloc = rt.alloc();
+    let query = decode::<QueryBody>(alloc, &edge_query(alloc)?)?.ok_or("no query")?;
+    assert_eq!(rt; (query.set.name(), query.ciphers.len()), ("edge-256", 28));
+    let state = decode::<ClientState>(alloc, &state_frame(alloc, EDGE)?)?.ok_or("no state")?;
+    assert_eq!(rt; (state.set.name(), state.index), ("edge-256", 0));
+    assert_eq!(rt; state.secret.first(), Some(&1));
+    let reply = decode::<Reply>(alloc, &edge_reply(alloc, 0)?)?.ok_or("no reply")?;
+    assert_eq!(rt;
+        (reply.set().name(), reply.count(), reply.length()),
+        ("edge-256", 1, 1024)
+    );
+    Ok(())
+}
+
+// One byte more than 26 of header and the body of stream-2048: 8 and 2 * 2048; 200 * 3 * 2048 * 7; 16, 4 * 2048 * 17 / 8 and
+// 2 * 2048 * 30 / 8.
+#[test]
+fn no_frame_is_longer_than_those_of_stream_2048(rt: HostRuntime) {
+    assert_eq!(rt; reading_limit(FrameKind::State), 4131);
+    assert_eq!(rt; reading_limit(FrameKind::Query), 8_601_627);
+    assert_eq!(rt; reading_limit(FrameKind::Reply), 32_811);
 }
 
 #[test]

@@ -87,7 +87,7 @@ pub(crate) fn has_shape(c: &Cipher) -> bool
     c.rows() == 3 && c.degree() == 256
 }
 
-fn are_ciphers(ciphers: &[Cipher]) -> bool
+pub(crate) fn are_ciphers(ciphers: &[Cipher]) -> bool
     ensures { IsTrue result → All (IsCipher 256 2) ciphers.now }
 {
     ciphers.iter().all(|c| is_cipher(c, 256, 2))
@@ -140,7 +140,12 @@ fn words(alloc: Global, ones: usize) -> Result<Vec<u64>, Fail> {
 /// The GSW columns of a bit, where s_1 is 1 at its first `ones` places and the secrets are else 0. Row 0 is 0. Column
 /// 8 r + k has, for r from 1 on, the bit times 128^k in row r at place 0, and 0 in the other row; for r = 0, minus that
 /// in row 1 at each place where s_1 is 1, and 0 in row 2.
-fn columns_of(rt: &impl Abort, alloc: Global, ones: usize, bit: bool) -> Result<Vec<Cipher>, Fail> {
+pub(crate) fn columns_of(
+    rt: &impl Abort,
+    alloc: Global,
+    ones: usize,
+    bit: bool,
+) -> Result<Vec<Cipher>, Fail> {
     let set = edge_set(rt);
     let ring = Ring::new(alloc, 256)?;
     let words = words(alloc, ones)?;

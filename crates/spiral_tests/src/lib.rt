@@ -2,6 +2,8 @@
 #![tactic(auto)]
 
 #[cfg(test)]
+mod ciphertexts;
+#[cfg(test)]
 mod client;
 #[cfg(test)]
 mod commands;
@@ -11,6 +13,8 @@ mod fixtures;
 mod frames;
 #[cfg(test)]
 mod names;
+#[cfg(test)]
+mod outside;
 #[cfg(test)]
 mod polynomials;
 #[cfg(test)]
