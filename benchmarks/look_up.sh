@@ -2,9 +2,9 @@
 # Time and peak memory of the four commands of a look-up, on a database as large as the set allows, beside the time of a plain
 # read of the database file. SETS chooses the sets: SETS="tiny-stream" benchmarks/look_up.sh
 . "$(dirname "$0")/measure.bash"
-declare -A most=([tiny-stream]=8 [edge-256]=4 [stream-2048]=512) capacity=([tiny-stream]=1024 [edge-256]=1024 [stream-2048]=15360)
+declare -A most=([tiny-stream]=8 [stream-2048]=512) capacity=([tiny-stream]=1024 [stream-2048]=15360)
 head -c 32 /dev/zero > seed
-for set in ${SETS:-tiny-stream edge-256}; do
+for set in ${SETS:-tiny-stream}; do
   head -c $((most[$set] * capacity[$set])) /dev/urandom > records
   measure "prepare $set" prepare "$set" "${capacity[$set]}" records database
   measure "ask $set" ask "$set" 1 seed:seed state setup query
@@ -15,6 +15,5 @@ for set in ${SETS:-tiny-stream edge-256}; do
   start=$(date +%s%N)
   cat database > copy
   printf '%-28s %8d ms\n' "cat the database" $((($(date +%s%N) - start) / 1000000))
-  # edge-256 stands at the limit of noise on purpose: there the record of a random query comes back wrong
-  [ "$set" = edge-256 ] || cmp -s record <(tail -c +$((capacity[$set] + 1)) records | head -c "${capacity[$set]}") || echo "the record isn't the one asked for"
+  cmp -s record <(tail -c +$((capacity[$set] + 1)) records | head -c "${capacity[$set]}") || echo "the record isn't the one asked for"
 done

@@ -28,12 +28,30 @@ same "words past the needed ones" query2 query
 expect "no words" 5 "words short: need 29184, have 0" ask edge-256 0 words:empty no no no
 head -c 31 /dev/zero > seed31; head -c 32 /dev/zero > seed; { cat seed; printf more; } > seed36
 expect "a seed of 31 bytes" 5 "words short: need 29184, have 0" ask edge-256 0 seed:seed31 no no no; absent "a seed of 31 bytes" no
-expect "a seed" 0 "query edge-256 setup 0 bytes query 150551 bytes" ask edge-256 3 seed:seed s1 u1 q1
-expect "a longer seed" 0 "query edge-256 setup 0 bytes query 150551 bytes" ask edge-256 3 seed:seed36 s2 u2 q2
+expect "a seed" 0 "query tiny-stream setup 0 bytes query 172058 bytes" ask tiny-stream 3 seed:seed s1 u1 q1
+expect "a longer seed" 0 "query tiny-stream setup 0 bytes query 172058 bytes" ask tiny-stream 3 seed:seed36 s2 u2 q2
 same "a longer seed" q1 q2; same "a longer seed's state" s1 s2
 # The first uniform number of a seed of zeros is made of words 512 and 513, behind those of the secrets: word 512 times 2^64 and word
 # 513, modulo q. The words are the key stream of ChaCha20, as openssl gives it for a key and a nonce of zeros.
-is "the first residue" 63a4abaa797e1d "$(at q1 23 7)"
+is "the first residue" 63a4abaa797e1d "$(at q1 26 7)"
+
+# With twelve numbers 1 in s_1 the left side of row 1 isn't below the right one any more.
+{ repeat 0200000000000000 12; repeat 0100000000000000 500; head -c $((8 * (29184 - 512))) /dev/zero; } > noisy
+expect "too noisy" 6 "too noisy: row 1, noise 128" ask edge-256 0 words:noisy ns nu nq; absent "too noisy" ns; absent "too noisy" nu; absent "too noisy" nq
+right=280912209073579885592576
+report() { printf 'set edge-256 index 0 rows 2\nrow 1 noise 128 secret %s left %s right %s\nrow 2 noise 128 secret 0 left 70228052268669849305088 right %s\nfits %s' "$1" "$2" $right $right "$3"; }
+expect "a report that fits" 0 "$(report 11 263355196006756020649984 yes)" noise edge-256 0 words:words
+expect "a report that doesn't" 0 "$(report 12 280912209073854763499520 no)" noise edge-256 0 words:noisy
+# The word 65535 is a number -1 of a secret, and an error of 16, the greatest: each noise is the greatest that words can give, and the query
+# is sent all the same.
+for ((k = 0; k < 33280; k++)); do printf '\xff\xff\0\0\0\0\0\0'; done > greatest
+"$program" noise tiny-stream 0 words:greatest > said; is "the greatest noise" "16679040 16679040 yes" "$(sed -n 's/^row . noise \([0-9]*\) .*/\1/p; s/^fits //p' said | tr '\n' ' ' | sed 's/ $//')"
+expect "the greatest noise is sent" 0 "query tiny-stream setup 0 bytes query 172058 bytes" ask tiny-stream 0 words:greatest gs gu gq
+expect "noise of an index that isn't there" 4 "index 4 is not below 4" noise edge-256 4 words:missing
+expect "noise of short words" 5 "words short: need 29184, have 29183" noise edge-256 0 words:short
+expect "noise without words" 7 "file fault" noise edge-256 0 words:missing
+expect "noise with a word too many" 2 "usage" noise edge-256 0 words:words more
+expect "noise of an unknown set" 3 "unknown set" noise nosuch 0 words:words
 
 expect "an unknown set" 3 "unknown set" ask nosuch 0 words:w a b c
 expect "a set that isn't handled" 3 "unknown set" ask tiny-spiral 0 words:w a b c
@@ -62,8 +80,8 @@ same "standard output full" q6 query
 
 truncate -s 1G huge
 seconds=$SECONDS
-(ulimit -v 200000; expect "a file of 1 GiB of words" 0 "query edge-256 setup 0 bytes query 150551 bytes" ask edge-256 0 words:huge s7 u7 q7; [ "$failed" = 0 ]) && passed=$((passed + 1)) || failed=$((failed + 1))
-(ulimit -v 200000; expect "a seed of 1 GiB" 0 "query edge-256 setup 0 bytes query 150551 bytes" ask edge-256 0 seed:huge s8 u8 q8; [ "$failed" = 0 ]) && passed=$((passed + 1)) || failed=$((failed + 1))
+(ulimit -v 200000; expect "a file of 1 GiB of words" 0 "query tiny-stream setup 0 bytes query 172058 bytes" ask tiny-stream 0 words:huge s7 u7 q7; [ "$failed" = 0 ]) && passed=$((passed + 1)) || failed=$((failed + 1))
+(ulimit -v 200000; expect "a seed of 1 GiB" 0 "query tiny-stream setup 0 bytes query 172058 bytes" ask tiny-stream 0 seed:huge s8 u8 q8; [ "$failed" = 0 ]) && passed=$((passed + 1)) || failed=$((failed + 1))
 [ $((SECONDS - seconds)) -le 10 ] && passed=$((passed + 1)) || { failed=$((failed + 1)); echo "FAILED a file of 1 GiB took long"; }
 
 # the state of one set, the reply of another

@@ -1,11 +1,16 @@
 #!/usr/bin/env bash
-# Cases from an independent implementation, where they lie beside the repository; skipped where they don't.
+# Cases from an independent implementation, where they lie beside the repository; skipped where they don't: those of the sets and
+# commands that the program has so far.
 . "$(dirname "$0")/checks.bash"
 replay=$top/../shared/vectors/replay.sh
-cases=$top/../shared/vectors/early-open.txt
+cases=$top/../shared/vectors/open.txt
 if [ ! -r "$replay" ] || [ ! -r "$cases" ]; then
   echo "vectors.sh: skipped, the cases aren't there"
   exit 0
 fi
-# all cases of this file: the commands and sets that the program has so far
-"$replay" "$program" "$cases"
+status=0
+ONLY="3 4" BUILT="prepare ask answer open noise" "$replay" "$program" "$cases" || status=1
+for set in edge-256 tiny-stream; do
+  ONLY=9 BUILT=noise "$replay" "$program" "$cases" "$set" || status=1
+done
+exit $status

@@ -1,4 +1,5 @@
 pub mod Widths
 pub mod ColumnMessages
+pub mod FirstMessages
 pub mod Columns
 pub mod Products

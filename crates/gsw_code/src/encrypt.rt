@@ -6,7 +6,8 @@ ghost use Rattle.spiral_model.specs.Queries.{gsw_messages, gsw_row_columns, gsw_
 ghost use Rattle.regev_code.specs.Shapes.{OfDegree, taken};
 ghost use Rattle.gsw_code.specs.Columns.{row_secrets_of, ColumnsDrawn};
 
-use crate::messages::{column_messages, power_of};
+use crate::intended::power_of;
+use crate::messages::column_messages;
 use gadget_digits::digit_count;
 use no_memory::NoMemory;
 use regev_code::{Cipher, Draw, Secret, draw_cipher};

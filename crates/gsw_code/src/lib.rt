@@ -3,8 +3,10 @@
 
 mod encrypt;
 mod gsw;
+mod intended;
 mod messages;
 mod product;
 
 pub use encrypt::encrypt_bit;
 pub use gsw::{Gsw, Ready, forms_of};
+pub use intended::{column_message_into, first_message_into, first_value, power_of, selection};

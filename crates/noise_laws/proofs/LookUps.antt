@@ -1,52 +1,51 @@
 -- State and reply of a look-up: they are of one set, the index is there, and both have the shape that a frame carries.
-use Rattle.std.proofs.Common.{◌≡◌, ℕ, suc, ◌+◌, ◌*◌, ◌/◌, ◌%◌, ◌^◌, ◌<◌, ◌≤◌, Bool, true, false, ℤ, pos, List, [], ◌∷◌, length, get_or, map, drop, if◌then◌else◌, not, ◌||◌, Option, Some, None, All, refl, sym, ◌∙◌, ap, arith, subst, length-append, length-take, mul-le-mul_right, pow_pos}
+use Rattle.std.proofs.Common.{◌≡◌, ℕ, suc, ◌+◌, ◌*◌, ◌/◌, ◌%◌, ◌^◌, ◌<◌, Bool, true, false, ℤ, pos, List, [], ◌∷◌, length, get_or, map, if◌then◌else◌, Option, None, All, refl, sym, ◌∙◌, ap, arith, subst, length-append, pow_pos}
 use Rattle.std.specs.List.{range_with_len, flat_map}
 use Rattle.std.proofs.Math.Nat.{pow-succ'}
-use Rattle.std.proofs.lemmas.Int.{ints}
 use Rattle.std.proofs.lemmas.Nat.{mod_below, div_below}
-use Rattle.std.proofs.lemmas.List.{length-map, length-drop}
+use Rattle.std.proofs.lemmas.List.{length-map}
 use Rattle.std.proofs.lemmas.List.Elements.{All-head, All-tail, All-map, All-weaker}
 use Rattle.std.proofs.lemmas.List.FromFn.{length-map-range_with_len}
 use Rattle.negacyclic.specs.Residues.{nearest}
 use Rattle.negacyclic.specs.Ring.{ring_add}
 use Rattle.negacyclic.proofs.Residues.{residue-below}
 use Rattle.negacyclic.proofs.Lengths.{length-ring_add, length-ring_total}
-use Rattle.negacyclic.proofs.Lists.{all_range, all_pieces, all_flat_map, length-pieces}
+use Rattle.negacyclic.proofs.Lists.{all_range, all_pieces, all_flat_map}
 use Rattle.spiral_sets.specs.declared.param_set.ParamSet.{ParamSet}
-use Rattle.spiral_sets.specs.Sets.{IsBuilt, q, q1, q2, q1_bits, rows, columns, entries, has_keys}
+use Rattle.spiral_sets.specs.Sets.{IsBuilt, q, q1, q2, q1_bits, rows, columns, entries}
 use Rattle.spiral_sets.proofs.SetBounds.{n-some}
 use Rattle.spiral_model.specs.Words.{Poly, Cipher, Gsw, Matrix, row_of, cipher_at}
-use Rattle.spiral_model.specs.Sampling.{secret_number, secret_numbers}
-use Rattle.spiral_model.specs.Databases.{RecordTable, IsTable, record_count, record_at, matrices_of}
+use Rattle.spiral_model.specs.Databases.{RecordTable, IsTable, record_at, matrices_of}
 use Rattle.spiral_model.specs.Gadgets.{external_product, cipher_add, cipher_sub, selected}
 use Rattle.spiral_model.specs.KeySwitching.{DigitKey}
-use Rattle.spiral_model.specs.Keys.{SetKeys, keys_in, lift_keys}
+use Rattle.spiral_model.specs.Keys.{SetKeys, lift_keys}
 use Rattle.spiral_model.specs.Packing.{packed_row, packed_column, packed}
-use Rattle.spiral_model.specs.Replies.{IsSwitched, IsReply, IsState, IsTernary, switched, switched_entry, switched_body, switched_zeroth, switched_mask}
-use Rattle.spiral_model.specs.Answering.{Ready, firsts_of, gsw_of, gsws_of, expanded_gsw, expanded_gsws, ready_by, ready_of, first_row, first_product, first_columns_of, first_products, fold_pair, fold_step, folded, result_columns, result_of, reply_of, answer_of}
-use Rattle.spiral_model.specs.Dealing.{secret_rows, state_of, query_of, key_body_of, dealt_keys}
-use Rattle.noise_laws.specs.Laws.{AreSecrets}
+use Rattle.spiral_model.specs.Replies.{open_bytes, IsSwitched, IsReply, IsState, IsTernary, switched, switched_entry, switched_body, switched_zeroth, switched_mask}
+use Rattle.spiral_model.specs.Answering.{Ready, ready_of, first_row, first_product, first_columns_of, first_products, fold_pair, fold_step, folded, result_columns, result_of, reply_of, answer_of}
+use Rattle.spiral_model.specs.Dealing.{secret_rows, state_of, query_of, dealt_keys}
 use Rattle.noise_laws.specs.LookUps.{LookUp, reply_to}
 use Rattle.noise_laws.proofs.RecordValues.{length-record}
 use Rattle.noise_laws.proofs.Folding.{length-fold_step, length-first_products}
-use Rattle.noise_laws.proofs.Dealt.{dealt_secrets, dealt_selections}
+use Rattle.noise_laws.proofs.Dealt.{dealt_secrets, dealt_selections, dealt_opens}
 
 -- ---- state and reply
 
--- They are of one set,
+-- They are of one set, that of the database,
 pub of_one_set : (table : RecordTable) (words : List ℕ) (index : ℕ) → (state_of table.set words index).set ≡ (reply_to table words index).set
 unfolding state_of answer_of reply_of
 of_one_set table words index = refl
 
+-- which is handled where that one is,
 pub state_built : (table : RecordTable) (words : List ℕ) (index : ℕ) → IsBuilt table.set → IsBuilt (state_of table.set words index).set
 unfolding state_of
 state_built table words index built = built
 
+-- and so is the reply's;
 pub reply_built : (table : RecordTable) (words : List ℕ) (index : ℕ) → IsBuilt table.set → IsBuilt (reply_to table words index).set
 unfolding answer_of reply_of
 reply_built table words index built = built
 
--- and the index is below the count.
+-- the index is below the count.
 pub asked_below : (table : RecordTable) (words : List ℕ) (index : ℕ) → LookUp table words index
     → (state_of table.set words index).index < (reply_to table words index).count
 unfolding state_of answer_of reply_of
@@ -57,6 +56,13 @@ pub reply_length : (table : RecordTable) (words : List ℕ) (index : ℕ) → Lo
     → (reply_to table words index).record_length ≡ length (record_at table index)
 unfolding answer_of reply_of
 reply_length table words index look_up = sym (length-record table index look_up.is_table look_up.present)
+
+-- The reply opens by the state to the record that was asked for.
+pub look_up_opens : (table : RecordTable) (words : List ℕ) (index : ℕ) → LookUp table words index
+    → open_bytes (state_of table.set words index) (reply_to table words index) ≡ record_at table index
+look_up_opens table words index look_up = dealt_opens table words index look_up.is_table look_up.present look_up.fits
+
+-- ---- the shape of a state
 
 -- what each secret keeps
 abbrev IsSecret : ℕ → List ℤ → Type 0
@@ -81,7 +87,8 @@ state_kept table words index look_up =
       known = look_up.is_table.known;
       index = omega (arith, count, look_up.present);
       secret_length = length-secrets set.degree (secret_rows set words) secrets.rows ∙ ap (λ (k : ℕ). k * set.degree) secrets.count;
-      ternary = all_flat_map IsTernary (λ row. row) (secret_rows set words) (All-weaker (IsSecret set.degree) (All IsTernary) (λ row is. is.1) (secret_rows set words) secrets.rows);
+      ternary = all_flat_map IsTernary (λ row. row) (secret_rows set words)
+          (All-weaker (IsSecret set.degree) (All IsTernary) (λ row is. is.1) (secret_rows set words) secrets.rows);
     }
 
 -- ---- the shape of a result
@@ -100,9 +107,11 @@ length-first_row : (set : ParamSet) (matrices : List Matrix) (firsts : List Ciph
 unfolding first_row
 length-first_row set matrices firsts j c row = length-ring_total q set.degree (2 ^ set.nu1) _
 
-product_rows : (set : ParamSet) (matrices : List Matrix) (firsts : List Cipher) (j c : ℕ) → HasRows set.degree (rows set + 1) (first_product set matrices firsts j c)
+product_rows : (set : ParamSet) (matrices : List Matrix) (firsts : List Cipher) (j c : ℕ)
+    → HasRows set.degree (rows set + 1) (first_product set matrices firsts j c)
 unfolding first_product
-product_rows set matrices firsts j c = rows_at set.degree (rows set + 1) (first_row set matrices firsts j c) (length-first_row set matrices firsts j c)
+product_rows set matrices firsts j c =
+    rows_at set.degree (rows set + 1) (first_row set matrices firsts j c) (length-first_row set matrices firsts j c)
 
 columns_rows : (set : ParamSet) (matrices : List Matrix) (firsts : List Cipher) (j : ℕ)
     → All (HasRows set.degree (rows set + 1)) (first_columns_of set matrices firsts j)
@@ -182,15 +191,17 @@ plain_result set matrices ready plain selections =
           (folded_rows set.degree set.w_gsw (rows set + 1) ready.gsws products (products_rows set matrices ready.firsts));
     }
 
-columns_result : (set : ParamSet) (lift : List DigitKey) (matrices : List Matrix) (ready : Ready) → length ready.gsws ≡ set.nu2 → (pack : Bool) → set.pack ≡ pack
-    → IsResult set (if pack then packed set lift (folded set.degree set.w_gsw ready.gsws (first_products set matrices ready.firsts))
-    else folded set.degree set.w_gsw ready.gsws (first_products set matrices ready.firsts))
-columns_result set lift matrices ready selections true packs = packed_result set lift (folded set.degree set.w_gsw ready.gsws (first_products set matrices ready.firsts))
-columns_result set lift matrices ready selections false plain = plain_result set matrices ready plain selections
+columns_result : (set : ParamSet) (lift : List DigitKey) (left : List Cipher) (pack : Bool) → (set.pack ≡ false → IsResult set left) → set.pack ≡ pack
+    → IsResult set (if pack then packed set lift left else left)
+columns_result set lift left true plain packs = packed_result set lift left
+columns_result set lift left false plain packs = plain packs
 
 result_kept : (table : RecordTable) (lift : List DigitKey) (ready : Ready) → length ready.gsws ≡ table.set.nu2 → IsResult table.set (result_of table lift ready)
 unfolding result_of result_columns
-result_kept table lift ready selections = columns_result table.set lift (matrices_of table) ready selections table.set.pack refl
+result_kept table lift ready selections =
+    let set = table.set in
+    columns_result set lift (folded set.degree set.w_gsw ready.gsws (first_products set (matrices_of table) ready.firsts)) set.pack
+    (λ plain. plain_result set (matrices_of table) ready plain selections) refl
 
 -- ---- the reply
 
@@ -205,7 +216,8 @@ switched_row N m a some size = record {
 }
 
 -- row r of column c
-result_row : (set : ParamSet) (result : List Cipher) (c r : ℕ) → IsResult set result → c < set.n → r < set.n + 1 → length (row_of (cipher_at result c) r) ≡ set.degree
+result_row : (set : ParamSet) (result : List Cipher) (c r : ℕ) → IsResult set result → c < set.n → r < set.n + 1
+    → length (row_of (cipher_at result c) r) ≡ set.degree
 result_row set result c r is column row =
     let cipher = is.each c [] (omega (arith, is.many)) in
     cipher.degree r [] (omega (arith, cipher.many))

@@ -1,5 +1,5 @@
 -- Words past the needed ones change nothing: what is dealt depends on the words before the place that it ends at.
-use Rattle.std.proofs.Common.{◌≡◌, ℕ, suc, ◌+◌, ◌*◌, ◌<◌, ◌≤◌, Bool, true, false, ℤ, List, [], ◌∷◌, length, map, get_or, take, All, if◌then◌else◌, refl, sym, ◌∙◌, ap, arith, mul-le-mul_right}
+use Rattle.std.proofs.Common.{◌≡◌, ℕ, suc, ◌+◌, ◌*◌, ◌<◌, ◌≤◌, Bool, true, false, ℤ, List, [], ◌∷◌, Option, None, length, map, get_or, take, All, if◌then◌else◌, refl, sym, ◌∙◌, ap, arith, mul-le-mul_right}
 use Rattle.std.proofs.lemmas.List.Elements.{All-head, All-tail}
 use Rattle.std.proofs.lemmas.List.{get_or-take}
 use Rattle.std.specs.List.{range_with_len, flat_map}
@@ -7,14 +7,18 @@ use Rattle.std.proofs.lemmas.Bool.{true≢false}
 use Rattle.negacyclic.proofs.Lists.{same_range}
 use Rattle.negacyclic.proofs.Stands.{reduced_same}
 use Rattle.spiral_sets.specs.declared.param_set.ParamSet.{ParamSet}
-use Rattle.spiral_sets.specs.Sets.{q, rows, has_keys}
+use Rattle.spiral_sets.specs.Sets.{IsSet, q, rows, has_keys}
+use Rattle.spiral_sets.proofs.SetBounds.{n-some}
 use Rattle.spiral_sets.specs.Counts.{words_of, secret_words, query_ciphertexts, words_needed}
 use Rattle.spiral_model.specs.Words.{Poly, Cipher}
 use Rattle.spiral_model.specs.Sampling.{uniform_number, uniform_poly, error_number, error_poly, secret_number, secret_numbers, secret_poly}
 use Rattle.spiral_model.specs.Ciphertexts.{encrypted_row, encrypted_rows, encrypted, encrypted_all, words_taken}
 use Rattle.spiral_model.specs.Replies.{QueryState}
 use Rattle.spiral_model.specs.Bodies.{CipherBody}
-use Rattle.spiral_model.specs.Dealing.{secret_rows, secret_polys, query_words, query_of, state_of, query_body_of}
+use Rattle.spiral_model.specs.Keys.{SetKeys, lift_keys}
+use Rattle.spiral_model.specs.Answering.{ready_of}
+use Rattle.spiral_model.specs.Noise.{NoiseRow, report_of, dealt_report}
+use Rattle.spiral_model.specs.Dealing.{scalar_secret, secret_rows, secret_polys, query_words, query_of, dealt_keys, state_of, query_body_of}
 use Rattle.spiral_model.specs.Queries.{query_messages}
 use Rattle.pir_client.proofs.SetNumbers.{query_count-words, query_of-direct}
 use Rattle.pir_client.proofs.MessageLists.{query-lists}
@@ -100,6 +104,15 @@ secret_rows-same : (set : ParamSet) (k : ℕ) (u v : List ℕ) → set.direct �
 unfolding secret_rows
 secret_rows-same set k u v direct plain same h = secret_rows-plain (has_keys set) set.degree set.n k u v (has_keys-none set direct plain) same h
 
+-- the scalar secret, which a set without keys doesn't use
+scalar-same : (set : ParamSet) (k : ℕ) (u v : List ℕ) → Agree k u v → set.degree ≤ k → scalar_secret set u ≡ scalar_secret set v
+unfolding scalar_secret
+scalar-same set k u v same h = ap (secret_poly set.degree) (secret-same set.degree k u v 0 same (omega arith))
+
+pub no_keys : (set : ParamSet) (words : List ℕ) → set.direct ≡ true → set.pack ≡ false → dealt_keys set words ≡ None
+unfolding dealt_keys
+no_keys set words direct plain = rw (direct, plain) refl
+
 query-same : (set : ParamSet) (k : ℕ) (u v : List ℕ) (index : ℕ) → set.direct ≡ true → set.pack ≡ false → Agree k u v → words_needed set ≤ k
     → query_of set u index ≡ query_of set v index
 query-same set k u v index direct plain same h =
@@ -130,3 +143,23 @@ pub query-front : (set : ParamSet) (k : ℕ) (words : List ℕ) (index : ℕ) �
 unfolding query_body_of
 query-front set k words index direct plain h =
     ap {A = List Cipher} {B = CipherBody} (λ cs. record { set = set; ciphers = cs }) (sym (query-same set k (take k words) words index direct plain (front-agrees k words) h))
+
+-- The noise of what words deal is that of what the first of them deal.
+pub report-front : (set : ParamSet) (k : ℕ) (words : List ℕ) (index : ℕ) → IsSet set → set.direct ≡ true → set.pack ≡ false → words_needed set ≤ k
+    → dealt_report set words index ≡ dealt_report set (take k words) index
+unfolding dealt_report
+report-front set k words index known direct plain h =
+    let front : List ℕ = take k words in
+    let same = front-agrees k words in
+    let dealt = secret_words-are set direct plain in
+    let one : 1 ≤ set.n = omega (arith, n-some set known) in
+    let some : 1 * set.degree ≤ set.n * set.degree = mul-le-mul_right set.degree one in
+    let scalar : scalar_secret set front ≡ scalar_secret set words = scalar-same set k front words same (omega (arith, some, dealt, h)) in
+    let rows : secret_rows set front ≡ secret_rows set words = secret_rows-same set k front words direct plain same (omega (arith, dealt, h)) in
+    let query : query_of set front index ≡ query_of set words index = query-same set k front words index direct plain same h in
+    let keys : dealt_keys set front ≡ dealt_keys set words = no_keys set front direct plain ∙ sym (no_keys set words direct plain) in
+    let Of : Poly → List (List ℤ) → Option SetKeys → List Cipher → List NoiseRow = λ s numbers sent ciphers. report_of set s numbers index (lift_keys sent) (ready_of set sent ciphers) in
+    ap (λ (s : Poly). Of s (secret_rows set words) (dealt_keys set words) (query_of set words index)) (sym scalar)
+    ∙ ap (λ (numbers : List (List ℤ)). Of (scalar_secret set front) numbers (dealt_keys set words) (query_of set words index)) (sym rows)
+    ∙ ap (λ (sent : Option SetKeys). Of (scalar_secret set front) (secret_rows set front) sent (query_of set words index)) (sym keys)
+    ∙ ap (λ (ciphers : List Cipher). Of (scalar_secret set front) (secret_rows set front) (dealt_keys set front) ciphers) (sym query)

@@ -4,3 +4,4 @@ pub mod MessageLists
 pub mod QueryDraws
 pub mod FirstWords
 pub mod QueryShapes
+pub mod Retrieved

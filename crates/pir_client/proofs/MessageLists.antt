@@ -1,14 +1,12 @@
 -- The messages of a query's ciphertexts: what rows encrypt, and the lists of them, part by part.
-use Rattle.std.proofs.Common.{◌≡◌, ℕ, ◌*◌, ◌==◌, if◌then◌else◌, Bool, true, false, pos, List, length, map, All, refl, sym, ◌∙◌, ap, subst}
+use Rattle.std.proofs.Common.{◌≡◌, ℕ, ◌*◌, ◌==◌, if◌then◌else◌, true, pos, List, length, map, All, sym, ◌∙◌, ap, subst}
 use Rattle.std.specs.List.{range_with_len, flat_map}
 use Rattle.std.proofs.lemmas.List.Elements.{All-map}
 use Rattle.std.proofs.lemmas.List.FromFn.{length-map-range_with_len}
-use Rattle.negacyclic.specs.Ring.{reduced}
 use Rattle.spiral_sets.specs.declared.param_set.ParamSet.{ParamSet}
-use Rattle.spiral_sets.specs.Sets.{q, delta, places, rows}
+use Rattle.spiral_sets.specs.Sets.{delta, places, rows}
 use Rattle.spiral_sets.specs.Counts.{firsts_count, gsw_count, ciphertext_count, query_ciphertexts}
 use Rattle.spiral_model.specs.Words.{Poly}
-use Rattle.spiral_model.specs.Ciphertexts.{constant}
 use Rattle.spiral_model.specs.Queries.{first_place, row_message, in_row, first_messages, first_columns, selection_bit, selection_columns, query_messages}
 use Rattle.regev_code.proofs.MessageLists.{AreLists, lists-append, lists-pieces}
 use Rattle.gsw_code.proofs.ColumnMessages.{length-constant}
@@ -17,24 +15,12 @@ use Rattle.pir_client.proofs.SetNumbers.{query_count-is}
 
 -- ---- the messages of one ciphertext
 
-chosen_pos : (b : Bool) (x : ℕ) → pos (if b then x else 0) ≡ (if b then pos x else pos 0)
-chosen_pos true x = refl
-chosen_pos false x = refl
-
--- what row i encrypts
-pub row_is : (set : ParamSet) (N n r i value here : ℕ) (message : Poly) → N ≡ set.degree → n ≡ N → here ≡ (if i == r then value else 0)
-    → message ≡ reduced q n (λ k. if k == 0 then pos here else pos 0) → message ≡ row_message set r (pos value) i
-unfolding row_message constant
-row_is set N n r i value here message degree size chosen worked =
-    worked ∙ ap (λ (m : ℕ). constant m (pos here)) (size ∙ degree) ∙ ap (λ (x : ℕ). constant set.degree (pos x)) chosen ∙ ap (constant set.degree) (chosen_pos (i == r) value)
-
 -- what all rows encrypt
-pub in_row-all : (set : ParamSet) (index u r value m : ℕ) (worked : List Poly) → m ≡ rows set
-    → value ≡ (if u == first_place set index then delta set else 0) → worked ≡ map (row_message set r (pos value)) (range_with_len 1 m) → worked ≡ first_messages set index u r
+pub in_row-all : (set : ParamSet) (index u r m : ℕ) (worked : List Poly) → m ≡ rows set
+    → worked ≡ map (row_message set r (if u == first_place set index then pos (delta set) else pos 0)) (range_with_len 1 m) → worked ≡ first_messages set index u r
 unfolding in_row
-in_row-all set index u r value m worked all chosen is =
-    is ∙ ap (λ (n : ℕ). map (row_message set r (pos value)) (range_with_len 1 n)) all
-    ∙ ap (in_row set r) (ap pos chosen ∙ chosen_pos (u == first_place set index) (delta set))
+in_row-all set index u r m worked all is =
+    is ∙ ap (λ (n : ℕ). map (row_message set r (if u == first_place set index then pos (delta set) else pos 0)) (range_with_len 1 n)) all
 
 pub length-first_messages : (set : ParamSet) (index u r : ℕ) → length (first_messages set index u r) ≡ rows set
 unfolding in_row

@@ -1,7 +1,8 @@
 -- The shape of a query's ciphertexts, and what `ask` sends.
-use Rattle.std.proofs.Common.{◌≡◌, ℕ, suc, ◌+◌, ◌*◌, ◌<◌, Bool, true, false, ℤ, List, [], ◌∷◌, length, map, take, All, refl, sym, ◌∙◌, ap, arith, subst}
+use Rattle.std.proofs.Common.{◌≡◌, ℕ, suc, ◌+◌, ◌-◌, ◌*◌, ◌<◌, ◌≤◌, Bool, true, false, ℤ, List, [], ◌∷◌, Option, None, length, get_or, map, take, All, refl, sym, ◌∙◌, ap, arith, subst}
 use Rattle.std.specs.List.{range_with_len, flat_map}
 use Rattle.std.proofs.lemmas.Bool.{true≢false}
+use Rattle.std.proofs.lemmas.List.FromFn.{length-map-range_with_len}
 use Rattle.std.proofs.lemmas.List.Elements.{All-nil, All-cons, All-head, All-tail, All-same}
 use Rattle.negacyclic.specs.Ring.{ring_mul, ring_add}
 use Rattle.negacyclic.proofs.Lengths.{length-ring_add, ring_add-below}
@@ -14,9 +15,12 @@ use Rattle.spiral_model.specs.Sampling.{uniform_poly, error_poly, secret_poly}
 use Rattle.spiral_model.specs.Ciphertexts.{encrypted_row, encrypted_rows, encrypted, encrypted_all, words_taken, IsCipher}
 use Rattle.spiral_model.specs.Replies.{QueryState}
 use Rattle.spiral_model.specs.Bodies.{CipherBody, IsQuery, query_rows}
-use Rattle.spiral_model.specs.Dealing.{secret_polys, query_words, state_of, query_body_of}
+use Rattle.spiral_model.specs.Keys.{SetKeys, lift_keys}
+use Rattle.spiral_model.specs.Answering.{Ready, ready_of}
+use Rattle.spiral_model.specs.Dealing.{scalar_secret, secret_rows, secret_polys, query_words, query_of, dealt_keys, state_of, query_body_of}
+use Rattle.spiral_model.specs.Noise.{NoiseRow, noise_left, noise_right, report_row, report_of, FitsReport, dealt_report, Fits}
 use Rattle.spiral_model.specs.Queries.{first_columns, selection_columns, query_messages}
-use Rattle.spiral_frames.specs.Frames.{Spell, query_message}
+use Rattle.spiral_frames.specs.Frames.{Spell, CanBeSent, query_message}
 use Rattle.regev_code.specs.Seen.{Secrets, Cursor}
 use Rattle.regev_code.specs.Shapes.{under, secrets_from, taken}
 use Rattle.regev_code.proofs.Draws.{drawn-more}
@@ -24,11 +28,16 @@ use Rattle.regev_code.proofs.Samples.{uniform_poly-below, length-uniform_poly}
 use Rattle.regev_code.proofs.Encryptions.{length-encrypted}
 use Rattle.regev_code.proofs.Secrets.{secrets_from-rows}
 use Rattle.gsw_code.specs.Columns.{row_secrets_of, ColumnsDrawn}
+use Rattle.noise_check.specs.declared.reported.Report.{Report}
+use Rattle.noise_check.specs.declared.reported.RowReport.{RowReport}
+use Rattle.noise_check.specs.Reports.{row_at, reported_at, IsReport, LeastMiss}
+use Rattle.noise_check.proofs.FittingRows.{row_read, miss_within, miss_left, before_miss}
 use Rattle.pir_client.specs.declared.asking.Asked.{Asked}
-use Rattle.pir_client.specs.Asks.{IsAsked}
+use Rattle.pir_client.specs.declared.asking.Dealt.{Dealt}
+use Rattle.pir_client.specs.Asks.{IsAsked, IsDealt, FirstMiss}
 use Rattle.pir_client.proofs.SetNumbers.{setup_words-none, query_of-direct}
 use Rattle.pir_client.proofs.MessageLists.{firsts-lists, query-lists}
-use Rattle.pir_client.proofs.FirstWords.{state-front, query-front}
+use Rattle.pir_client.proofs.FirstWords.{no_keys, state-front, query-front, report-front}
 
 -- N residues
 abbrev IsPoly : ℕ → Poly → Type 0
@@ -143,21 +152,77 @@ query-drawn set words index secret first draw query built front drawn at of_set 
     ap {A = ParamSet} {B = CipherBody} (λ s. record { set = s; ciphers = query.ciphers }) of_set
     ∙ ap {A = List Cipher} {B = CipherBody} (λ cs. record { set = set; ciphers = cs }) ciphers
 
+-- ---- its noise
+
+-- the report of a query made ready is that of the words
+pub report-dealt : (set : ParamSet) (words : List ℕ) (index : ℕ) (secret : Secrets) (first : Cursor) (query : CipherBody) (ready : Ready) (report : Report) → IsBuilt set
+    → first ≡ record { words = words; used = 0 } → secret ≡ secrets_from set first.words first.used → query ≡ query_body_of set words index
+    → ready ≡ ready_of set None query.ciphers → IsReport set (report_of set (scalar_secret set words) secret.rows index [] ready) report
+    → IsReport set (dealt_report set words index) report
+unfolding dealt_report query_body_of
+report-dealt set words index secret first query ready report built front drawn of_words made is =
+    let s : Poly = scalar_secret set words in
+    let rows : secret.rows ≡ secret_rows set words = ap (λ (x : Secrets). x.rows) (first-secrets set words secret first front drawn) ∙ secrets_from-rows set words in
+    let ciphers : query.ciphers ≡ query_of set words index = ap (λ (b : CipherBody). b.ciphers) of_words in
+    let keys : None ≡ dealt_keys set words = sym (no_keys set words built.0 built.1) in
+    let Of : Option SetKeys → Ready → List NoiseRow = λ sent r. report_of set s (secret_rows set words) index (lift_keys sent) r in
+    let same : report_of set s secret.rows index [] ready ≡ Of (dealt_keys set words) (ready_of set (dealt_keys set words) (query_of set words index)) =
+    ap (λ (numbers : List (List ℤ)). report_of set s numbers index [] ready) rows
+    ∙ ap (Of None) (made ∙ ap (ready_of set None) ciphers)
+    ∙ ap (λ (sent : Option SetKeys). Of sent (ready_of set sent (query_of set words index))) keys in
+    subst (λ (xs : List NoiseRow). IsReport set xs report) same is
+
+-- it has a row for each secret
+pub length-dealt : (set : ParamSet) (words : List ℕ) (index : ℕ) → length (dealt_report set words index) ≡ set.n
+unfolding dealt_report report_of
+length-dealt set words index =
+    length-map-range_with_len
+    (report_row set (scalar_secret set words) (secret_rows set words) index (lift_keys (dealt_keys set words)) (ready_of set (dealt_keys set words) (query_of set words index))) 0 set.n
+
+-- The row that misses first, as it is told.
+pub first-miss : (set : ParamSet) (rows : List NoiseRow) (report : Report) (place : ℕ) (row : RowReport) → IsSet set → IsReport set rows report → LeastMiss report place
+    → row ≡ get_or report.rows.items place row → FirstMiss set rows row.row row.noise
+first-miss set rows report place row known is miss read =
+    let within : place < length rows = miss_within set rows report known is place miss in
+    let same : row ≡ reported_at set rows place = read ∙ row_read set rows report known is place row within in
+    let back : place ≡ place + 1 - 1 = omega arith in
+    subst (λ (x : RowReport). FirstMiss set rows x.row x.noise) (sym same)
+    (record {
+      some = omega arith;
+      place = omega (arith, within);
+      misses = subst (λ (k : ℕ). noise_right set ≤ noise_left set (row_at rows k)) back (miss_left set rows report known is place miss);
+      first = subst (λ (k : ℕ). FitsReport set (take k rows)) back (before_miss set rows report known is place miss);
+      noise_is = ap (λ (k : ℕ). (row_at rows k).noise) back;
+    })
+
+-- What was dealt can be sent.
+pub dealt-sendable : (set : ParamSet) (index : ℕ) (words : List ℕ) (dealt : Dealt) → IsBuilt set → IsDealt set index words dealt → CanBeSent (query_message dealt.query)
+unfolding query_body_of
+dealt-sendable set index words dealt built is =
+    let of_set : set ≡ dealt.query.set = sym (ap (λ (b : CipherBody). b.set) is.query) in (subst IsBuilt of_set built, is.shape)
+
 -- ---- what is asked
 
-pub asked-is : (set : ParamSet) (index : ℕ) (words : List ℕ) (asked : Asked) (query : CipherBody) → asked.state ≡ state_of set words index → asked.setup.items ≡ []
-    → query ≡ query_body_of set words index → Spell (query_message query) asked.query.items → IsAsked set index words asked
-asked-is set index words asked query state setup is spelled = record {
-  state = state;
+-- what was dealt and fits, as it is handed out
+pub asked-is : (set : ParamSet) (index : ℕ) (words : List ℕ) (dealt : Dealt) (asked : Asked) → IsDealt set index words dealt → asked.state ≡ dealt.state
+    → asked.setup.items ≡ [] → Spell (query_message dealt.query) asked.query.items → asked.report ≡ dealt.report → Fits set words index → IsAsked set index words asked
+asked-is set index words dealt asked is state setup spelled report fits = record {
+  state = state ∙ is.state;
   setup = setup;
-  query = subst (λ (body : CipherBody). Spell (query_message body) asked.query.items) is spelled;
+  query = subst (λ (body : CipherBody). Spell (query_message body) asked.query.items) is.query spelled;
+  report = subst (λ (r : Report). IsReport set (dealt_report set words index) r) (sym report) is.report;
+  fits = fits;
 }
 
 -- The words past the needed ones change nothing.
-pub asked-front : (set : ParamSet) (index : ℕ) (words : List ℕ) (asked : Asked) → IsBuilt set → IsAsked set index words asked
+pub asked-front : (set : ParamSet) (index : ℕ) (words : List ℕ) (asked : Asked) → IsSet set → IsBuilt set → IsAsked set index words asked
     → IsAsked set index (take (words_needed set) words) asked
-asked-front set index words asked built is = record {
-  state = is.state ∙ state-front set (words_needed set) words index built.0 built.1 (omega arith);
-  setup = is.setup;
-  query = subst (λ (body : CipherBody). Spell (query_message body) asked.query.items) (query-front set (words_needed set) words index built.0 built.1 (omega arith)) is.query;
-}
+asked-front set index words asked known built is =
+    let same = report-front set (words_needed set) words index known built.0 built.1 (omega arith) in
+    record {
+      state = is.state ∙ state-front set (words_needed set) words index built.0 built.1 (omega arith);
+      setup = is.setup;
+      query = subst (λ (body : CipherBody). Spell (query_message body) asked.query.items) (query-front set (words_needed set) words index built.0 built.1 (omega arith)) is.query;
+      report = subst (λ (rows : List NoiseRow). IsReport set rows asked.report) same is.report;
+      fits = subst (λ (rows : List NoiseRow). FitsReport set rows) same is.fits;
+    }

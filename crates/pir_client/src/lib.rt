@@ -1,4 +1,4 @@
-//! The client of a private look-up: it makes a query from random words, and opens the reply.
+//! The client of a private look-up: it makes a query from random words, measures its noise, and opens the reply.
 #![tactic(auto)]
 
 mod asking;
@@ -7,5 +7,5 @@ mod opening;
 mod query;
 mod state;
 
-pub use asking::{AskError, Asked, ask};
+pub use asking::{AskError, Asked, ask, measure_for};
 pub use opening::{OpenError, open};

@@ -1,4 +1,4 @@
-ghost use Rattle.pir_client.specs.Opens.{Opens};
+ghost use Rattle.pir_client.specs.Opens.{Opens, Retrieves};
 
 use modulus_switch::{ClientState, Reply, open_matrix};
 use no_memory::NoMemory;
@@ -31,6 +31,14 @@ impl From<NoMemory> for OpenError {
 /// The record that a reply holds for the state of its query: each value opened by the secret, the values as bytes, cut
 /// to the record's length.
 pub fn open(alloc: Global, state: &ClientState, reply: &Reply) -> Result<Vec<u8>, OpenError>
+    ensures opens { Opens (λ bytes. bytes.items) state.now reply.now result }
+    ensures retrieves { Retrieves (λ bytes. bytes.items) state.now reply.now result }
+{
+    open_present(alloc, state, reply)
+}
+
+/// The same, where the sets are one and the record is there.
+fn open_present(alloc: Global, state: &ClientState, reply: &Reply) -> Result<Vec<u8>, OpenError>
     ensures { Opens (λ bytes. bytes.items) state.now reply.now result }
 {
     let found = reply.set();

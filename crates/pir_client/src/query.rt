@@ -8,8 +8,8 @@ ghost use Rattle.spiral_model.specs.Bodies.{IsQuery};
 ghost use Rattle.regev_code.specs.Shapes.{OfDegree};
 ghost use Rattle.gsw_code.specs.Columns.{row_secrets_of, ColumnsDrawn};
 
-use crate::messages::{first_messages, selection};
-use gsw_code::encrypt_bit;
+use crate::messages::first_messages;
+use gsw_code::{encrypt_bit, selection};
 use no_memory::NoMemory;
 use regev_code::{Cipher, Draw, QueryBody, Secret, draw_cipher};
 use ring_poly::Ring;

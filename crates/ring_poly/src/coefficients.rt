@@ -1,6 +1,6 @@
-ghost use Rattle.std.specs.Prelude.{◌≡◌, ◌*◌, ◌^◌, ◌<◌, ◌≤◌, pos, neg_ℤ, unsigned_abs, length, replicate, ◌+ℤ◌, ◌-ℤ◌, ◌*ℤ◌, ◌↔◌, IsTrue, IfOk};
+ghost use Rattle.std.specs.Prelude.{◌≡◌, ◌==◌, ◌-◌, ◌*◌, ◌/◌, ◌^◌, ◌<◌, ◌≤◌, if◌then◌else◌, pos, neg_ℤ, unsigned_abs, length, replicate, ◌+ℤ◌, ◌-ℤ◌, ◌*ℤ◌, ◌↔◌, IsTrue, IfOk};
 ghost use Rattle.negacyclic.specs.Residues.{residue, cen, norm};
-ghost use Rattle.negacyclic.specs.Ring.{at, shift_at, ring_add, ring_sub, ring_scale, ring_shift};
+ghost use Rattle.negacyclic.specs.Ring.{at, shift_at, reduced, ring_add, ring_sub, ring_scale, ring_shift};
 ghost use Rattle.spiral_sets.specs.Sets.{q};
 ghost use Rattle.ring_poly.specs.Polynomials.{AreResidues};
 
@@ -29,6 +29,25 @@ pub(crate) fn clear(a: &mut [u64])
 {
     for place in 0..a.len() {
         a[place] = 0;
+    }
+}
+
+/// z at place 0, and 0 at the others.
+fn constant_at(z: u64, place: usize) -> u64
+    requires { z < q }
+    ensures { result ≡ residue q (if place == 0 then pos z else pos 0) }
+{
+    if place == 0 { z } else { 0 }
+}
+
+/// Writes z at place 0 and 0 at the others.
+pub(crate) fn put_constant(a: &mut [u64], z: u64)
+    requires { z < q }
+    ensures value { a.new ≡ reduced q (length a.old) (λ k. if k == 0 then pos z else pos 0) }
+    ensures residues { AreResidues a.new }
+{
+    for place in 0..a.len() {
+        a[place] = constant_at(z, place);
     }
 }
 
@@ -143,6 +162,7 @@ pub(crate) fn scale(z: u64, a: &[u64], out: &mut [u64])
 fn magnitude(x: u64) -> u64
     requires { x < q }
     ensures value { result ≡ unsigned_abs (cen q x) }
+    ensures half { result ≤ (q - 1) / 2 }
     ensures size { result < 2 ^ 56 }
 {
     if x <= (Q - 1) / 2 { x } else { Q - x }
@@ -152,7 +172,8 @@ fn magnitude(x: u64) -> u64
 /// so it stays below 2^120.
 pub(crate) fn norm1(a: &[u64]) -> u128
     requires { AreResidues a.now }
-    ensures { result ≡ norm q a.now }
+    ensures value { result ≡ norm q a.now }
+    ensures size { result ≤ length a.now * ((q - 1) / 2) }
 {
     let mut sum = 0u128;
     for i in 0..a.len() {

@@ -1,4 +1,4 @@
-ghost use Rattle.std.specs.Prelude.{◌≡◌, ◌<◌, ◌==◌, if◌then◌else◌, pos, length, replicate, IfOk};
+ghost use Rattle.std.specs.Prelude.{◌≡◌, ◌-◌, ◌*◌, ◌/◌, ◌<◌, ◌≤◌, ◌==◌, if◌then◌else◌, pos, length, replicate, IfOk};
 ghost use Rattle.negacyclic.specs.Residues.{norm};
 ghost use Rattle.negacyclic.specs.Ring.{reduced, ring_add, ring_sub};
 ghost use Rattle.spiral_sets.specs.Sets.{q};
@@ -92,6 +92,15 @@ impl Poly {
         coefficients::clear(&mut self.numbers);
     }
 
+    /// Becomes the polynomial whose constant coefficient is z and whose others are 0, as many as it had. It takes no memory.
+    pub fn put_constant(&mut self, z: u64)
+        requires { z < q }
+        ensures value { self.new ≡ reduced q (length self.old) (λ k. if k == 0 then pos z else pos 0) }
+        ensures degree { length self.new ≡ length self.old }
+    {
+        coefficients::put_constant(&mut self.numbers, z);
+    }
+
     /// Becomes the polynomial with these coefficients, as many as it had. It takes no memory.
     pub fn put_coeffs(&mut self, c: &[u64])
         requires same_length { length c.now ≡ length self.old }
@@ -122,7 +131,8 @@ impl Poly {
     /// The norm: the sum of the absolute values of the coefficients' centred representatives, x where x is at most
     /// (q - 1) / 2 and q - x above. Each is below 2^56 and there are less than 2^64, so the sum stays below 2^120.
     pub fn norm1(&self) -> u128
-        ensures { result ≡ norm q self.now }
+        ensures value { result ≡ norm q self.now }
+        ensures size { result ≤ length self.now * ((q - 1) / 2) }
     {
         coefficients::norm1(&self.numbers)
     }

@@ -2,12 +2,24 @@
 //! each the contract of a function that does nothing.
 #![tactic(auto)]
 
-ghost use Rattle.spiral_frames.specs.FrameLaws.{FramesAreOfOneSet, SpelledIsNotRefused, RefusedIsNotSpelled};
+ghost use Rattle.spiral_frames.specs.FrameLaws.{FramesAreOfOneSet, StatesOfFrames, RepliesOfFrames, SpelledIsNotRefused, RefusedIsNotSpelled};
 
 /// Messages of one kind whose frames are the same bytes are of one set.
 #[tactic(auto, using(crate::proofs::FrameLaws::same_set_of_frames))]
 pub fn frames_are_of_one_set()
     ensures { FramesAreOfOneSet }
+{}
+
+/// A frame is that of one state only.
+#[tactic(auto, using(crate::proofs::SameMessages::same_state))]
+pub fn states_of_frames()
+    ensures { StatesOfFrames }
+{}
+
+/// A frame is that of one reply only.
+#[tactic(auto, using(crate::proofs::SameMessages::same_reply))]
+pub fn replies_of_frames()
+    ensures { RepliesOfFrames }
 {}
 
 /// The frame of a database is not refused.

@@ -7,7 +7,7 @@ use Rattle.frame_headers.specs.declared.frame_error.FrameError.{FrameError}
 use Rattle.tool_base.specs.declared.status.Status.{Status}
 use Rattle.tool_base.specs.Puts.{GotRefusal, Finished}
 use Rattle.tool_base.specs.Outputs.{Output}
-use Rattle.tool_base.specs.Steps.{Scene, Steps, at_files, refuse, without_line, refuse_frame, write, Unread}
+use Rattle.tool_base.specs.Steps.{Scene, Steps, at_files, refuse, without_line, refuse_frame, puts, write, Unread}
 
 abbrev pub TellsStill : Scene → Type 0
 TellsStill s = (s.files_after.tells ≡ s.files.tells) × (s.sink_after.tells ≡ s.sink.tells)
@@ -30,6 +30,10 @@ module _ (s : Scene) (status : Status) where
 
   pub refused_frame_told : (input : ℕ) (name : List ℕ) (IsRefused : List ℕ → FrameError → Type 0) → refuse_frame input name IsRefused s status → TellsStill s
   refused_frame_told input name IsRefused (error, _, ends) = refuse_told _ _ ends
+
+  pub puts_told : (lines : List ℕ) → puts lines s status → TellsStill s
+  puts_told lines (same, inl put) = (ap (λ (f : FilesSeen). f.tells) same, finished_told s.sink s.sink_after lines status put)
+  puts_told lines (same, inr (_, got)) = (ap (λ (f : FilesSeen). f.tells) same, got.0)
 
   pub write_told : (outputs : List Output) (line : List ℕ) → write outputs line s status → TellsStill s
   write_told outputs line (same, inl (_, put)) = (same, finished_told s.sink s.sink_after line status put)

@@ -7,7 +7,7 @@ use Rattle.std.proofs.lemmas.Str.Parse.{numerals_by_value, tells_digits}
 use Rattle.std.specs.Result.{result_ok}
 use Rattle.std.specs.Str.{bytes_eq}
 use Rattle.std.specs.Str.Parse.{AllDigits, ParsesUnsigned, IsNumeral, digits_value, without_leading_plus}
-use Rattle.tool_base.specs.Words.{IsNumber, IsWorkers, CommandName, the_prepare, the_ask, the_answer, the_open, spelled_name, Said, args_of, InForm, FitNone}
+use Rattle.tool_base.specs.Words.{IsNumber, IsWorkers, CommandName, the_prepare, the_ask, the_answer, the_open, the_noise, spelled_name, Said, args_of, InForm, FitNone}
 
 first_digit : (n : ℕ) → n < 2 ^ 32 → 48 ≤ get_or (decimal n) 0 0
 first_digit zero small = omega (arith, ap (λ b. get_or b 0 0) (decimal_digit 0 (omega arith)))
@@ -89,7 +89,7 @@ named_in (name ∷ names) word = cond (bytes_eq (spelled_name name) word) (Some 
 
 -- the table, a row a command; it is checked by computing
 named : List ℕ → Option CommandName
-named = named_in (the_prepare ∷ the_ask ∷ the_answer ∷ the_open ∷ [])
+named = named_in (the_prepare ∷ the_ask ∷ the_answer ∷ the_open ∷ the_noise ∷ [])
 
 named_again : (name : CommandName) → named (spelled_name name) ≡ Some name
 unfolding named named_in
@@ -97,6 +97,7 @@ named_again the_prepare = refl
 named_again the_ask = refl
 named_again the_answer = refl
 named_again the_open = refl
+named_again the_noise = refl
 
 same_name : (a b : CommandName) → spelled_name a ≡ spelled_name b → a ≡ b
 same_name a b same = let e : Some a ≡ Some b = sym (named_again a) ∙ ap named same ∙ named_again b in cc

@@ -1,7 +1,7 @@
 -- The numbers of the statuses.
 use Rattle.std.specs.Prelude.{ℕ}
 use Rattle.tool_base.specs.declared.status.Status.{Status}
-use Rattle.tool_base.specs.declared.status.Status.TheVariants.{Done, NoMemory, Usage, UnknownSet, IndexRange, WordsShort, FileFault, BadFrame, WrongSet, Absent, BadRecords, SinkFault}
+use Rattle.tool_base.specs.declared.status.Status.TheVariants.{Done, NoMemory, Usage, UnknownSet, IndexRange, WordsShort, TooNoisy, FileFault, BadFrame, WrongSet, Absent, BadRecords, SinkFault}
 
 abbrev pub number_of_status : Status → ℕ
 number_of_status Done = 0
@@ -10,6 +10,7 @@ number_of_status Usage = 2
 number_of_status UnknownSet = 3
 number_of_status IndexRange = 4
 number_of_status WordsShort = 5
+number_of_status TooNoisy = 6
 number_of_status FileFault = 7
 number_of_status BadFrame = 9
 number_of_status WrongSet = 10

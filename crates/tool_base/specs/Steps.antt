@@ -12,7 +12,7 @@ use Rattle.spiral_frames.specs.Refusals.{code_of, place_of}
 use Rattle.tool_base.specs.declared.status.Status.{Status}
 use Rattle.tool_base.specs.declared.status.Status.TheVariants.{NoMemory, UnknownSet, FileFault, BadFrame}
 use Rattle.tool_base.specs.Texts.{unknown_set_line, file_fault_line, bad_frame_line}
-use Rattle.tool_base.specs.Puts.{GotNothing, GotRefusal, Refused, Finished}
+use Rattle.tool_base.specs.Puts.{GotNothing, GotRefusal, Refused, Finished, Finishes}
 use Rattle.tool_base.specs.Names.{Names, NamesNone}
 use Rattle.tool_base.specs.Outputs.{Output, WroteAll, StoppedIn, FailedIn}
 
@@ -55,6 +55,10 @@ refuse_frame input name IsRefused s status =
     (error : FrameError) × (IsTrue s.files.tells → IsRefused (content_of s.files name) error)
     × refuse BadFrame (bad_frame_line input (code_of error) (place_of error)) s status
 
+-- Puts these lines, and that is all: the command did what it promises. Memory may be wanting for them.
+abbrev pub puts : List ℕ → Steps
+puts lines s status = (s.files_after ≡ s.files) × Finishes s.sink s.sink_after lines status
+
 -- Writes these outputs in order, and then puts this line. Where memory is wanting or a write fails, it stops there: at one output,
 -- which is as it was or holds a prefix of its bytes, with those before it written and those behind it as they were.
 abbrev pub write : List Output → List ℕ → Steps
@@ -74,6 +78,14 @@ needs Holds refusal line rest s status = ((Holds → ⊥) × refuse refusal line
 -- goes on, and this holds
 abbrev pub knowing : Type 0 → Steps → Steps
 knowing Fact rest s status = Fact × rest s status
+
+-- Works something out, for which memory may be wanting: then it ends with that, and nothing else happens.
+abbrev pub work_out : Steps → Steps
+work_out rest s status = without_line NoMemory s status ⊎ rest s status
+
+-- goes on in one way where this holds, and in another where it doesn't
+abbrev pub either : Type 0 → Steps → Steps → Steps
+either Holds rest otherwise s status = (Holds × rest s status) ⊎ ((Holds → ⊥) × otherwise s status)
 
 -- goes on with the set of this name, one that the program handles
 abbrev pub with_set : List ℕ → (ParamSet → Steps) → Steps

@@ -1,5 +1,5 @@
 -- The lines that the program puts. Each ends with one byte 10; numbers are plain decimal.
-use Rattle.std.specs.Prelude.{ℕ, List, [], ◌∷◌, ◌++◌, codes}
+use Rattle.std.specs.Prelude.{ℕ, List, [], ◌∷◌, ◌++◌, Option, Some, None, codes}
 use Rattle.std.specs.Fmt.{decimal}
 
 abbrev pub line : List ℕ → List ℕ
@@ -36,6 +36,32 @@ index_range_line index bound = codes "index " ++ (decimal index ++ (codes " is n
 -- so many words are needed, and the source holds fewer
 abbrev pub words_short_line : ℕ → ℕ → List ℕ
 words_short_line needed held = codes "words short: need " ++ (decimal needed ++ (codes ", have " ++ (decimal held ++ 10 ∷ [])))
+
+-- the query has too much noise: the first row, counted from 1, that misses, and its noise
+abbrev pub too_noisy_line : ℕ → ℕ → List ℕ
+too_noisy_line row noise = codes "too noisy: row " ++ (decimal row ++ (codes ", noise " ++ (decimal noise ++ 10 ∷ [])))
+
+-- the report of a query's noise begins: the set, the index asked for, and how many rows follow
+abbrev pub report_line : List ℕ → ℕ → ℕ → List ℕ
+report_line set index count =
+    codes "set " ++ (set ++ (codes " index " ++ (decimal index ++ (codes " rows " ++ (decimal count ++ 10 ∷ [])))))
+
+-- a left side, or `over` where there is none since the noise is too large
+abbrev pub left_text : Option ℕ → List ℕ
+left_text (Some left) = decimal left
+left_text None = codes "over"
+
+-- a row of the report: its noise, how many numbers of its secret aren't 0, and the sides of the inequality
+abbrev pub report_row_line : ℕ → ℕ → ℕ → Option ℕ → ℕ → List ℕ
+report_row_line row noise secret left right =
+    codes "row " ++ (decimal row ++ (codes " noise " ++ (decimal noise ++ (codes " secret " ++ (decimal secret ++ (codes " left " ++ (left_text left ++ (codes " right " ++ (decimal right ++ 10 ∷ [])))))))))
+
+-- whether the report fits
+abbrev pub fits_line : List ℕ
+fits_line = line (codes "fits yes")
+
+abbrev pub misses_line : List ℕ
+misses_line = line (codes "fits no")
 
 -- a query of that set was made, with a setup and a query of so many bytes
 abbrev pub query_line : List ℕ → ℕ → ℕ → List ℕ

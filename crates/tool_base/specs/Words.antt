@@ -3,6 +3,7 @@ use Rattle.std.specs.Prelude.{ℕ, List, [], ◌∷◌, ◌≡◌, ◌<◌, ◌�
 use Rattle.tool_base.specs.declared.words.opening.Open.{Open}
 use Rattle.tool_base.specs.declared.words.asking.Ask.{Ask}
 use Rattle.tool_base.specs.declared.words.preparing.Prepare.{Prepare}
+use Rattle.tool_base.specs.declared.words.measuring.Noise.{Noise}
 use Rattle.tool_base.specs.declared.words.answering.Answer.{Answer}
 use Rattle.tool_base.specs.declared.words.Command.{Command}
 use Rattle.tool_base.specs.declared.words.Command.TheVariants as command
@@ -40,6 +41,12 @@ pub record OpenWords : Type 0 where
   pub reply_name : List ℕ
   pub out_name : List ℕ
 
+-- `noise SET INDEX WORDS`
+pub record NoiseWords : Type 0 where
+  pub set_name : List ℕ
+  pub index : ℕ
+  pub source : WordSource
+
 -- ---- the words behind a command's name, a number in plain decimal; and where they are in form
 
 abbrev pub prepare_args : PrepareWords → List (List ℕ)
@@ -69,6 +76,13 @@ open_args o = o.state_name ∷ o.reply_name ∷ o.out_name ∷ []
 abbrev pub OpenForm : OpenWords → Type 0
 OpenForm _ = Unit {0}
 
+abbrev pub noise_args : NoiseWords → List (List ℕ)
+noise_args a = a.set_name ∷ decimal a.index ∷ source_word a.source ∷ []
+
+-- as in `ask`
+abbrev pub NoiseForm : NoiseWords → Type 0
+NoiseForm a = (a.index < 2 ^ 32) × (0 < length (source_name a.source))
+
 -- ---- the table of the commands
 
 pub data CommandName : Type 0 where
@@ -76,6 +90,7 @@ pub data CommandName : Type 0 where
   the_ask : CommandName
   the_answer : CommandName
   the_open : CommandName
+  the_noise : CommandName
 
 -- the first word
 abbrev pub spelled_name : CommandName → List ℕ
@@ -83,6 +98,7 @@ spelled_name the_prepare = codes "prepare"
 spelled_name the_ask = codes "ask"
 spelled_name the_answer = codes "answer"
 spelled_name the_open = codes "open"
+spelled_name the_noise = codes "noise"
 
 -- what the words behind it say
 abbrev pub Said : CommandName → Type 0
@@ -90,18 +106,21 @@ Said the_prepare = PrepareWords
 Said the_ask = AskWords
 Said the_answer = AnswerWords
 Said the_open = OpenWords
+Said the_noise = NoiseWords
 
 abbrev pub args_of : (name : CommandName) → Said name → List (List ℕ)
 args_of the_prepare = prepare_args
 args_of the_ask = ask_args
 args_of the_answer = answer_args
 args_of the_open = open_args
+args_of the_noise = noise_args
 
 abbrev pub InForm : (name : CommandName) → Said name → Type 0
 InForm the_prepare = PrepareForm
 InForm the_ask = AskForm
 InForm the_answer = AnswerForm
 InForm the_open = OpenForm
+InForm the_noise = NoiseForm
 
 -- ---- what a command line asks for
 
@@ -131,11 +150,15 @@ answer_seen a = record { db_name = a.db.now; setup_name = a.setup.now; query_nam
 abbrev pub open_seen : Open → OpenWords
 open_seen o = record { state_name = o.state.now; reply_name = o.reply.now; out_name = o.out.now }
 
+abbrev pub noise_seen : Noise → NoiseWords
+noise_seen a = record { set_name = a.set.now; index = a.index; source = source_seen a.source }
+
 abbrev pub command_seen : Command → Asked
 command_seen (command.Prepare p) = record { name = the_prepare; said = prepare_seen p }
 command_seen (command.Ask a) = record { name = the_ask; said = ask_seen a }
 command_seen (command.Answer a) = record { name = the_answer; said = answer_seen a }
 command_seen (command.Open o) = record { name = the_open; said = open_seen o }
+command_seen (command.Noise a) = record { name = the_noise; said = noise_seen a }
 
 -- ---- how the words are read
 

@@ -17,6 +17,7 @@ pub use source::Source;
 pub use status::Status;
 pub use texts::{
     absent_text, bad_frame_text, bad_records_text, database_text, index_range_text, query_text,
-    record_text, reply_text, words_short_text, wrong_set_text,
+    record_text, reply_text, report_row_text, report_text, too_noisy_text, words_short_text,
+    wrong_set_text,
 };
-pub use words::{Answer, Ask, Command, Open, Prepare};
+pub use words::{Answer, Ask, Command, Noise, Open, Prepare};

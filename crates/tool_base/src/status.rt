@@ -16,6 +16,8 @@ pub enum Status {
     IndexRange,
     /// The source holds fewer words than are needed.
     WordsShort,
+    /// The query has too much noise: its answer might open to another record.
+    TooNoisy,
     /// A file couldn't be read or written.
     FileFault,
     /// An input file isn't the one frame that is expected there.
@@ -42,6 +44,7 @@ impl Status {
             Status::UnknownSet => 3,
             Status::IndexRange => 4,
             Status::WordsShort => 5,
+            Status::TooNoisy => 6,
             Status::FileFault => 7,
             Status::BadFrame => 9,
             Status::WrongSet => 10,

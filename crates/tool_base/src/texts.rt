@@ -1,5 +1,5 @@
 ghost use Rattle.std.specs.Prelude.{◌≡◌, IfOk, string_bytes};
-ghost use Rattle.tool_base.specs.Texts.{record_line, wrong_set_line, absent_line, index_range_line, words_short_line, query_line, bad_records_line, database_line, bad_frame_line, reply_line};
+ghost use Rattle.tool_base.specs.Texts.{record_line, wrong_set_line, absent_line, index_range_line, words_short_line, query_line, bad_records_line, database_line, bad_frame_line, reply_line, too_noisy_line, report_line, report_row_line};
 
 use std::alloc::{AllocError, Global};
 
@@ -36,6 +36,41 @@ pub fn words_short_text(alloc: Global, needed: u64, held: usize) -> Result<Strin
     ensures { IfOk result (λ text. string_bytes text ≡ words_short_line needed held) }
 {
     format!(in alloc; "words short: need {needed}, have {held}\n")
+}
+
+/// The line that says which row, counted from 1, is the first whose noise is too large, and its noise.
+pub fn too_noisy_text(alloc: Global, row: u32, noise: u128) -> Result<String, AllocError>
+    ensures { IfOk result (λ text. string_bytes text ≡ too_noisy_line row noise) }
+{
+    format!(in alloc; "too noisy: row {row}, noise {noise}\n")
+}
+
+/// The line that a report of noise begins with.
+pub fn report_text(alloc: Global, set: &str, index: u32, count: usize) -> Result<String, AllocError>
+    ensures { IfOk result (λ text. string_bytes text ≡ report_line set.now index count) }
+{
+    format!(in alloc; "set {set} index {index} rows {count}\n")
+}
+
+/// The line of a row of the report. A row has no left side where its noise is too large.
+pub fn report_row_text(
+    alloc: Global,
+    row: u32,
+    noise: u128,
+    secret: u64,
+    left: Option<u128>,
+    right: u128,
+) -> Result<String, AllocError>
+    ensures { IfOk result (λ text. string_bytes text ≡ report_row_line row noise secret left right) }
+{
+    match left {
+        Some(left) => {
+            format!(in alloc; "row {row} noise {noise} secret {secret} left {left} right {right}\n")
+        }
+        None => format!(in alloc;
+            "row {row} noise {noise} secret {secret} left over right {right}\n"
+        ),
+    }
 }
 
 /// The line that says of which set the query is, and how long the files of the setup and of the query are.

@@ -3,11 +3,13 @@ ghost use Rattle.tool_base.specs.Words.{Gives, IsNumber, IsWorkers};
 
 mod answering;
 mod asking;
+mod measuring;
 mod opening;
 mod preparing;
 
 pub use answering::Answer;
 pub use asking::Ask;
+pub use measuring::Noise;
 pub use opening::Open;
 pub use preparing::Prepare;
 
@@ -25,6 +27,8 @@ pub enum Command<'a> {
     Answer(Answer<'a>),
     /// `open STATE REPLY OUT`: opens a reply by a state and writes the record.
     Open(Open<'a>),
+    /// `noise SET INDEX WORDS`: reports the noise of the query that these words give.
+    Noise(Noise<'a>),
 }
 
 // The number below 2^32 that a word is in plain decimal; `None` exactly where it is none.
@@ -64,6 +68,7 @@ impl<'a> Command<'a> {
             "ask" => Some(Command::Ask(Ask::from_args(args)?)),
             "answer" => Some(Command::Answer(Answer::from_args(args)?)),
             "open" => Some(Command::Open(Open::from_args(args)?)),
+            "noise" => Some(Command::Noise(Noise::from_args(args)?)),
             _ => None,
         }
     }

@@ -9,8 +9,13 @@ use Rattle.pir_client.specs.Asks.{IsAsked}
 use Rattle.tool_base.specs.Outputs.{Output}
 use Rattle.tool_base.specs.Texts.{query_line}
 use Rattle.tool_base.specs.Words.{AskWords}
-use Rattle.tool_files.specs.Ask.{query_frame, asked_outputs}
+use Rattle.tool_base.specs.Steps.{Steps, work_out, write}
+use Rattle.tool_files.specs.Ask.{query_frame, asked_outputs, quiet}
 use Rattle.tool_files.specs.AskedFrames.{outputs_from}
+
+-- what `ask` does with a set and words
+abbrev pub ask_rest : AskWords → ParamSet → List ℕ → Steps
+ask_rest a set words = work_out (quiet set words a.index (write (asked_outputs a set words) (query_line a.set_name 0 (length (query_frame a set words)))))
 
 -- three outputs
 abbrev pub triple : (a b c p q r : List ℕ) → List Output

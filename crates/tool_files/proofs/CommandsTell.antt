@@ -1,21 +1,29 @@
 -- Whether the files and the sink tell what they hold stays, whatever a command does.
-use Rattle.std.proofs.Common.{ℕ, List, ◌+◌, ◌*◌, inl, inr}
+use Rattle.std.proofs.Common.{ℕ, List, ◌+◌, ◌*◌, ◌++◌, length, inl, inr}
+use Rattle.spiral_sets.specs.declared.param_set.ParamSet.{ParamSet}
 use Rattle.spiral_model.specs.Sets.{max_records}
 use Rattle.spiral_model.specs.Counts.{words_needed}
+use Rattle.spiral_model.specs.Noise.{dealt_report, Fits}
 use Rattle.spiral_model.specs.Replies.{open_bytes}
 use Rattle.spiral_frames.specs.Frames.{frame_of, database_message}
 use Rattle.tool_base.specs.declared.status.Status.{Status}
 use Rattle.tool_base.specs.declared.status.Status.TheVariants.{BadFrame}
 use Rattle.tool_base.specs.Outputs.{one}
-use Rattle.tool_base.specs.Words.{PrepareWords, AskWords, AnswerWords, OpenWords}
-use Rattle.tool_base.specs.Steps.{Scene, at_files, without_line, refuse_frame, never}
-use Rattle.tool_base.proofs.Telling.{TellsStill, refuse_told, without_told, write_told, unread_told, refused_frame_told, after_reading}
+use Rattle.tool_base.specs.Texts.{query_line, fits_line, misses_line}
+use Rattle.tool_base.specs.Sources.{WordSource}
+use Rattle.tool_base.specs.Words.{PrepareWords, AskWords, NoiseWords, AnswerWords, OpenWords}
+use Rattle.tool_base.specs.Steps.{Scene, Steps, at_files, without_line, refuse_frame, never, work_out, either, puts, write}
+use Rattle.tool_base.proofs.Telling.{TellsStill, refuse_told, without_told, puts_told, write_told, unread_told, refused_frame_told, after_reading}
 use Rattle.tool_files.specs.Inputs.{SpellsNothing, SpellsDatabase, SpellsQuery, SpellsState, SpellsReply}
 use Rattle.tool_files.specs.RandomWords.{GivesWords}
 use Rattle.tool_files.specs.Prepare.{prepares, IsFront, table_of}
-use Rattle.tool_files.specs.Ask.{asks, asked_outputs}
+use Rattle.tool_files.specs.WithWords.{with_words}
+use Rattle.tool_files.specs.Ask.{asks, quiet, query_frame, asked_outputs}
+use Rattle.tool_files.specs.Noise.{noises, report_lines}
 use Rattle.tool_files.specs.Answer.{answers, IsRefused, reply_frame}
 use Rattle.tool_files.specs.Open.{opens}
+use Rattle.tool_files.proofs.Asking.{ask_rest}
+use Rattle.tool_files.proofs.Reporting.{noise_rest}
 
 pub prepare_told : (p : PrepareWords) (s : Scene) (status : Status) → prepares p s status → TellsStill s
 prepare_told p s status (inl (_, refused)) = refuse_told s status _ _ refused
@@ -27,13 +35,35 @@ prepare_told p s status (inr (set, _, inr (_, (now, only, inr (bytes, _, inr (_,
 prepare_told p s status (inr (set, _, inr (_, (now, only, inr (bytes, _, inr (_, inr (_, (_, ends)))))))) =
     after_reading s now only (write_told (at_files now s) status (one p.db_name (frame_of (database_message (table_of p set bytes)))) _ ends)
 
+-- so it does where a command goes on with words, whatever it goes on with
+words_told : (set_name : List ℕ) (index : ℕ) (source : WordSource) (rest : ParamSet → List ℕ → Steps) (s : Scene) (status : Status)
+    → ((set : ParamSet) (words : List ℕ) (t : Scene) → rest set words t status → TellsStill t) → with_words set_name index source rest s status → TellsStill s
+words_told set_name index source rest s status further (inl (_, refused)) = refuse_told s status _ _ refused
+words_told set_name index source rest s status further (inr (set, _, inl (_, refused))) = refuse_told s status _ _ refused
+words_told set_name index source rest s status further (inr (set, _, inr (_, (now, only, inl unread)))) =
+    after_reading s now only (unread_told (at_files now s) status s.files _ (GivesWords source (words_needed set)) never (λ e. absurd e) unread)
+words_told set_name index source rest s status further (inr (set, _, inr (_, (now, only, inr (words, _, inl (_, refused)))))) =
+    after_reading s now only (refuse_told (at_files now s) status _ _ refused)
+words_told set_name index source rest s status further (inr (set, _, inr (_, (now, only, inr (words, _, inr (_, ends)))))) =
+    after_reading s now only (further set words (at_files now s) ends)
+
+asked_told : (a : AskWords) (status : Status) (set : ParamSet) (words : List ℕ) (t : Scene)
+    → ask_rest a set words t status → TellsStill t
+asked_told a status set words t (inl short) = without_told t status _ short
+asked_told a status set words t (inr (inl (_, _, _, refused))) = refuse_told t status _ _ refused
+asked_told a status set words t (inr (inr (_, ends))) = write_told t status (asked_outputs a set words) _ ends
+
 pub ask_told : (a : AskWords) (s : Scene) (status : Status) → asks a s status → TellsStill s
-ask_told a s status (inl (_, refused)) = refuse_told s status _ _ refused
-ask_told a s status (inr (set, _, inl (_, refused))) = refuse_told s status _ _ refused
-ask_told a s status (inr (set, _, inr (_, (now, only, inl unread)))) =
-    after_reading s now only (unread_told (at_files now s) status s.files _ (GivesWords a.source (words_needed set)) never (λ e. absurd e) unread)
-ask_told a s status (inr (set, _, inr (_, (now, only, inr (words, _, inl (_, refused)))))) = after_reading s now only (refuse_told (at_files now s) status _ _ refused)
-ask_told a s status (inr (set, _, inr (_, (now, only, inr (words, _, inr (_, ends)))))) = after_reading s now only (write_told (at_files now s) status (asked_outputs a set words) _ ends)
+ask_told a s status asked = words_told a.set_name a.index a.source (ask_rest a) s status (asked_told a status) asked
+
+reported_told : (n : NoiseWords) (status : Status) (set : ParamSet) (words : List ℕ) (t : Scene)
+    → noise_rest n set words t status → TellsStill t
+reported_told n status set words t (inl short) = without_told t status _ short
+reported_told n status set words t (inr (inl (_, ends))) = puts_told t status _ ends
+reported_told n status set words t (inr (inr (_, ends))) = puts_told t status _ ends
+
+pub noise_told : (n : NoiseWords) (s : Scene) (status : Status) → noises n s status → TellsStill s
+noise_told n s status reported = words_told n.set_name n.index n.source (noise_rest n) s status (reported_told n status) reported
 
 pub answer_told : (a : AnswerWords) (s : Scene) (status : Status) → answers a s status → TellsStill s
 answer_told a s status (one_read, only1, inl unread) =

@@ -4,3 +4,5 @@ pub mod Asking
 pub mod Preparing
 pub mod Answering
 pub mod CommandsTell
+pub mod GivenWords
+pub mod Reporting

@@ -2,9 +2,12 @@ pub mod Inputs
 pub mod Reading
 pub mod Refusing
 pub mod RandomWords
+pub mod WithWords
 pub mod Reasons
 pub mod Prepare
 pub mod Ask
 pub mod AskedFrames
+pub mod Noise
+pub mod SeenRows
 pub mod Answer
 pub mod Open

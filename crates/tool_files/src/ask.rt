@@ -7,19 +7,19 @@ ghost use Rattle.tool_base.specs.Words.{ask_seen};
 ghost use Rattle.tool_files.specs.Ask.{asks};
 ghost use Rattle.tool_files.specs.AskedFrames.{outputs_from};
 
-use crate::random_words::read_words;
+use crate::given_words::given_words;
 use modulus_switch::ClientState;
 use no_memory::NoMemory;
-use pir_client::Asked;
-use pir_io::{Files, IoFault, Sink};
+use pir_client::{AskError, Asked};
+use pir_io::{Files, Sink};
 use pir_wire::encode_state;
 use std::alloc::Global;
 use tool_base::{
-    Ask, FILE_FAULT, Output, Status, built_set, index_range_text, query_text, refuse,
-    refuse_by_text, words_short_text, write_and_finish,
+    Ask, Output, Status, query_text, refuse_by_text, too_noisy_text, write_and_finish,
 };
 
-/// Makes a query for an index from random words, and writes the state, the setup and the query to three files.
+/// Makes a query for an index from random words, and writes the state, the setup and the query to three files, where the noise of the
+/// query fits.
 pub fn ask_files<F: Files, O: Sink>(
     alloc: Global,
     files: &mut F,
@@ -28,29 +28,18 @@ pub fn ask_files<F: Files, O: Sink>(
 ) -> Status
     ensures { asks (ask_seen ask.now) (scene (F.seen files.old) (F.seen files.new) (O.seen sink.old) (O.seen sink.new)) result }
 {
-    let Some(set) = built_set(ask.set) else {
-        return refuse(sink, b"unknown set\n", Status::UnknownSet);
+    let given = match given_words(alloc, files, sink, ask.set, ask.index, ask.source) {
+        Ok(given) => given,
+        Err(status) => return status,
     };
-    let bound = set.max_records();
-    if u64::from(ask.index) >= bound {
-        let text = index_range_text(alloc, ask.index, bound);
-        return refuse_by_text(sink, text, Status::IndexRange);
+    match pir_client::ask(alloc, &given.set, ask.index, &given.words) {
+        Ok(asked) => write_asked(alloc, files, sink, ask, &asked),
+        Err(AskError::TooNoisy { row, noise }) => {
+            refuse_by_text(sink, too_noisy_text(alloc, row, noise), Status::TooNoisy)
+        }
+        // The index and the words were checked: only memory can be wanting.
+        Err(_) => Status::NoMemory,
     }
-    let needed = set.words_needed();
-    let words = match read_words(alloc, files, ask.source, needed as usize) {
-        Ok(words) => words,
-        Err(IoFault::Failed) => return refuse(sink, FILE_FAULT, Status::FileFault),
-        Err(IoFault::NoMemory) => return Status::NoMemory,
-    };
-    if (words.len() as u64) < needed {
-        let text = words_short_text(alloc, needed, words.len());
-        return refuse_by_text(sink, text, Status::WordsShort);
-    }
-    // The index and the words were checked: only memory can be wanting.
-    let Ok(asked) = pir_client::ask(alloc, &set, ask.index, &words) else {
-        return Status::NoMemory;
-    };
-    write_asked(alloc, files, sink, ask, &asked)
 }
 
 // The State frame of a state of a set that this program handles.

@@ -3,10 +3,10 @@ use Rattle.std.proofs.Common.{ℕ, List, ◌≡◌, Some, inl, inr, subst}
 use Rattle.tool_base.specs.declared.status.Status.{Status}
 use Rattle.tool_base.specs.Statuses.{number_of_status}
 use Rattle.tool_base.specs.declared.words.Command.{Command}
-use Rattle.tool_base.specs.Words.{CommandName, the_prepare, the_ask, the_answer, the_open, Said, Gives}
+use Rattle.tool_base.specs.Words.{CommandName, the_prepare, the_ask, the_answer, the_open, the_noise, Said, Gives}
 use Rattle.tool_base.specs.Steps.{Scene}
 use Rattle.tool_base.proofs.Telling.{TellsStill, refuse_told}
-use Rattle.tool_files.proofs.CommandsTell.{prepare_told, ask_told, answer_told, open_told}
+use Rattle.tool_files.proofs.CommandsTell.{prepare_told, ask_told, answer_told, open_told, noise_told}
 use Rattle.tool_run.specs.Run.{does, executes, Runs}
 
 does_told : (name : CommandName) (said : Said name) (s : Scene) (status : Status) → does name said s status → TellsStill s
@@ -14,6 +14,7 @@ does_told the_prepare = prepare_told
 does_told the_ask = ask_told
 does_told the_answer = answer_told
 does_told the_open = open_told
+does_told the_noise = noise_told
 
 executed_told : (words : List (List ℕ)) (s : Scene) (status : Status) → executes words s status → TellsStill s
 executed_told words s status (inl (asked, _, _, done)) = does_told asked.name asked.said s status done

@@ -4,12 +4,13 @@ use Rattle.tool_base.specs.declared.status.Status.{Status}
 use Rattle.tool_base.specs.declared.status.Status.TheVariants.{Usage}
 use Rattle.tool_base.specs.Statuses.{number_of_status}
 use Rattle.tool_base.specs.Texts.{usage_line}
-use Rattle.tool_base.specs.Words.{CommandName, the_prepare, the_ask, the_answer, the_open, Said, Asked, InForm, words_of, FitNone}
+use Rattle.tool_base.specs.Words.{CommandName, the_prepare, the_ask, the_answer, the_open, the_noise, Said, Asked, InForm, words_of, FitNone}
 use Rattle.tool_base.specs.Steps.{Scene, Steps, refuse}
 use Rattle.tool_files.specs.Prepare.{prepares}
 use Rattle.tool_files.specs.Ask.{asks}
 use Rattle.tool_files.specs.Answer.{answers}
 use Rattle.tool_files.specs.Open.{opens}
+use Rattle.tool_files.specs.Noise.{noises}
 
 -- what a command's words say, done
 abbrev pub does : (name : CommandName) → Said name → Steps
@@ -17,6 +18,7 @@ does the_prepare = prepares
 does the_ask = asks
 does the_answer = answers
 does the_open = opens
+does the_noise = noises
 
 -- A command line: what its words ask for in form is done, or they fit no command's form and are refused.
 abbrev pub executes : List (List ℕ) → Steps

@@ -1,12 +1,13 @@
 ghost use Rattle.std.specs.Prelude.{◌≡◌, false, map, string_bytes};
 ghost use Rattle.tool_base.specs.Steps.{scene};
 ghost use Rattle.tool_run.specs.Run.{Runs, executes};
+ghost use Rattle.tool_run.specs.Retrieving.{Retrieves};
 
 use pir_io::{Files, Gate, Net, Sink};
 use std::alloc::Global;
 use std::thread::Threads;
 use tool_base::{Command, Status, refuse};
-use tool_files::{answer_files, ask_files, open_files, prepare_files};
+use tool_files::{answer_files, ask_files, noise_files, open_files, prepare_files};
 
 /// The program: does what the words of a command line ask, on the files, the net and the sink that are handed
 /// in, and answers the status that the process ends with.
@@ -21,6 +22,7 @@ pub fn run<R: Threads + Sync, F: Files, N: Net, G: Gate, O: Sink>(
 ) -> u8
     requires { (N.seen net.old).is_open ≡ false }
     ensures runs { Runs (map string_bytes args.now) (scene (F.seen files.old) (F.seen files.new) (O.seen out.old) (O.seen out.new)) result }
+    ensures retrieves { Retrieves (map string_bytes args.now) (scene (F.seen files.old) (F.seen files.new) (O.seen out.old) (O.seen out.new)) result }
     ensures net_kept { N.seen net.new ≡ N.seen net.old }
 {
     execute(rt, alloc, args, files, gate, out).number()
@@ -42,6 +44,7 @@ fn execute<R: Threads + Sync, F: Files, G: Gate, O: Sink>(
         Some(Command::Ask(ask)) => ask_files(alloc, files, out, &ask),
         Some(Command::Answer(answer)) => answer_files(rt, alloc, files, gate, out, &answer),
         Some(Command::Open(open)) => open_files(alloc, files, out, &open),
+        Some(Command::Noise(noise)) => noise_files(alloc, files, out, &noise),
         None => refuse(out, b"usage\n", Status::Usage),
     }
 }

@@ -1,25 +1,41 @@
-use Rattle.std.proofs.Common.{◌≡◌, ◌∙◌, arith}
-use Rattle.spiral_model.specs.Dealing.{query_body_of, state_of}
-use Rattle.pir_client.proofs.QueryShapes.{query-drawn, state-drawn, asked-is, asked-front}
+use Rattle.std.proofs.Common.{◌≡◌, refl, arith}
+use Rattle.spiral_sets.proofs.SetBounds.{n-most}
+use Rattle.spiral_model.specs.Noise.{dealt_report, Fits}
+use Rattle.noise_check.proofs.FittingRows.{length-report, report_fits}
+use Rattle.pir_client.proofs.QueryShapes.{length-dealt, first-miss, dealt-sendable, asked-is, asked-front}
 use Rattle.pir_client.proofs.asking.ask.Goals as goal
 
-state : (c : goal.After-drop-secret-inside-4) → c.in_ok-state.state ≡ state_of c.args.set.now c.args.words.now c.args.index
-state c =
-    state-drawn c.args.set.now c.args.words.now c.args.index c.in_ok-secret.secret c.new-draw.result c.in_ok-state.state c.new-draw.ensures c.in_ok-secret.ensures.ok c.in_ok-state.ensures
+pub first_miss-requires : goal.first_miss-requires
+first_miss-requires c =
+    let rows = dealt_report c.args.set.now c.args.words.now c.args.index in
+    omega (
+      arith,
+      length-report c.args.set.now rows c.in_ok-dealt.dealt.report c.requires.known c.in_ok-dealt.ensures.report,
+      length-dealt c.args.set.now c.args.words.now c.args.index,
+      n-most c.args.set.now c.requires.known,
+    )
 
-query : (c : goal.After-drop-secret-inside-4) → c.in_ok-query.query ≡ query_body_of c.args.set.now c.args.words.now c.args.index
-query c =
-    query-drawn c.args.set.now c.args.words.now c.args.index c.in_ok-secret.secret c.new-draw.result c.draw_secret.new.draw c.in_ok-query.query c.requires.built c.new-draw.ensures
-    c.in_ok-secret.ensures.ok c.in_ok-secret.ensures.taken c.in_ok-query.ensures.set c.in_ok-query.ensures.ciphers
+pub returns-in-Some-clause-asks : goal.returns-in-Some-clause-asks
+returns-in-Some-clause-asks c = (
+  c.in_ok-check_words.ensures,
+  first-miss c.args.set.now (dealt_report c.args.set.now c.args.words.now c.args.index) c.in_ok-dealt.dealt.report c.in-Some.miss c.index-row.result.now c.requires.known
+      c.in_ok-dealt.ensures.report c.in-Some.ensures c.index-row.ensures,
+)
+
+pub encode_query-requires : goal.encode_query-requires
+encode_query-requires c = dealt-sendable c.args.set.now c.args.index c.args.words.now c.in_ok-dealt.dealt c.requires.built c.in_ok-dealt.ensures
 
 pub returns-clause-asks : goal.returns-clause-asks
-returns-clause-asks c = (
-  omega (arith, c.max_records-bound.ensures, c.from.ensures),
-  omega (arith, c.words_needed-needed.ensures),
-  asked-is c.args.set.now c.args.index c.args.words.now _ c.in_ok-query.query (c.state.view_is ∙ state c) c.new-2.ensures.items (query c) c.in_ok-encode_query.ensures,
-)
+returns-clause-asks c =
+    let fits : Fits c.args.set.now c.args.words.now c.args.index =
+    (report_fits c.args.set.now (dealt_report c.args.set.now c.args.words.now c.args.index) c.in_ok-dealt.dealt.report c.requires.known c.in_ok-dealt.ensures.report).0 c.in_default.ensures in (
+      c.in_ok-check_words.ensures,
+      asked-is c.args.set.now c.args.index c.args.words.now c.in_ok-dealt.dealt _ c.in_ok-dealt.ensures refl c.new.ensures.items c.in_ok-encode_query.ensures refl fits,
+    )
 
 pub returns-clause-front : goal.returns-clause-front
 returns-clause-front c =
-    asked-front c.args.set.now c.args.index c.args.words.now _ c.requires.built
-    (asked-is c.args.set.now c.args.index c.args.words.now _ c.in_ok-query.query (c.state.view_is ∙ state c) c.new-2.ensures.items (query c) c.in_ok-encode_query.ensures)
+    let fits : Fits c.args.set.now c.args.words.now c.args.index =
+    (report_fits c.args.set.now (dealt_report c.args.set.now c.args.words.now c.args.index) c.in_ok-dealt.dealt.report c.requires.known c.in_ok-dealt.ensures.report).0 c.in_default.ensures in
+    asked-front c.args.set.now c.args.index c.args.words.now _ c.requires.known c.requires.built
+    (asked-is c.args.set.now c.args.index c.args.words.now c.in_ok-dealt.dealt _ c.in_ok-dealt.ensures refl c.new.ensures.items c.in_ok-encode_query.ensures refl fits)

@@ -14,3 +14,9 @@ returns-then-x-clause-value c =
 pub returns-else-x-clause-value : goal.returns-else-x-clause-value
 returns-else-x-clause-value c =
     let high : (q - 1) / 2 < c.args.x = omega (arith, q_is) in omega (arith, q_is, centred_high q c.args.x c.requires high)
+
+pub returns-then-x-clause-half : goal.returns-then-x-clause-half
+returns-then-x-clause-half c = omega (arith, q_is)
+
+pub returns-else-x-clause-half : goal.returns-else-x-clause-half
+returns-else-x-clause-half c = omega (arith, q_is)

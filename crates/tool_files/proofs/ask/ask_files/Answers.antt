@@ -1,50 +1,43 @@
-use Rattle.std.proofs.Common.{ℕ, ◌≡◌, ◌<◌, ◌∙◌, length, inl, refl, ap, sym, subst, arith}
-use Rattle.pir_io.specs.Files.{content_of}
+use Rattle.std.proofs.Common.{inl, inr, refl, sym, subst}
 use Rattle.spiral_sets.specs.declared.param_set.ParamSet.{ParamSet}
-use Rattle.spiral_model.specs.Sets.{IsBuilt, max_records}
-use Rattle.spiral_model.specs.Counts.{words_needed}
-use Rattle.tool_base.specs.Sources.{source_seen, source_name}
+use Rattle.spiral_model.specs.Sets.{IsBuilt}
 use Rattle.tool_base.specs.Steps.{scene}
-use Rattle.tool_base.specs.Texts.{index_range_line, words_short_line}
+use Rattle.tool_base.specs.Texts.{too_noisy_line}
 use Rattle.tool_base.specs.Words.{ask_seen}
-use Rattle.tool_base.proofs.Courses.{behind, found, held, denied, refused_as, write_as}
-use Rattle.tool_files.specs.RandomWords.{words_given}
-use Rattle.tool_files.proofs.Asking.{set_of_asked, outputs_are, line_is}
+use Rattle.tool_base.proofs.Courses.{write_as}
+use Rattle.tool_files.proofs.Asking.{ask_rest, set_of_asked, outputs_are, line_is}
+use Rattle.tool_files.proofs.GivenWords.{with_given, without_words, named_words}
 use Rattle.tool_files.proofs.ask.ask_files.Goals as goal
 
-pub returns-in_default : goal.returns-in_default
-returns-in_default g c = denied c.in_default.ensures.none refl c.refuse.ensures
+pub returns-in-Err : goal.returns-in-Err
+returns-in-Err g c =
+    let a = ask_seen c.args.ask.now in without_words a.set_name a.index a.source (ask_rest a) _ c.in-Err.status c.in-Err.ensures
 
-pub returns-then-from-bound : goal.returns-then-from-bound
-returns-then-from-bound g c =
-    found c.in-Some.set c.in-Some.ensures.found (denied (λ below. omega (arith, below, c.max_records-bound.ensures)) refl
-    (refused_as _ _ _ _ _ _ (ap (index_range_line c.args.ask.now.index) c.max_records-bound.ensures) (c.refuse_by_text.ensures _ c.index_range_text-text.ensures)))
-
-pub returns-in-Err-Failed : goal.returns-in-Err-Failed
-returns-in-Err-Failed g c =
-    let reads = rw c.in-Err-Failed.field-0-is at c.in-Err-Failed.ensures in
-    let below : c.args.ask.now.index < max_records c.in-Some.set = omega arith in
-    found c.in-Some.set c.in-Some.ensures.found (held below (behind c.read_words.ensures.only (inl (inl (reads.failed refl, (refl, c.refuse-in-Err-Failed.ensures))))))
-
-pub returns-then-len-needed : goal.returns-then-len-needed
-returns-then-len-needed g c =
-    let below : c.args.ask.now.index < max_records c.in-Some.set = omega arith in
-    let held_is : c.len-then-len-needed.result ≡ length c.in-Ok.words.items = omega (arith, c.len-then-len-needed.ensures, c.in-Ok.words.ok) in
-    let less : c.len-then-len-needed.result < c.words_needed-needed.result = omega (arith, c.len-then-len-needed.ensures, c.len.ensures, c.if-len-needed.true) in
-    let line : words_short_line c.words_needed-needed.result c.len-then-len-needed.result ≡ words_short_line (words_needed c.in-Some.set) (length c.in-Ok.words.items) =
-    ap (λ n. words_short_line n c.len-then-len-needed.result) c.words_needed-needed.ensures ∙ ap (words_short_line (words_needed c.in-Some.set)) held_is in
-    found c.in-Some.set c.in-Some.ensures.found (held below (behind c.read_words.ensures.only (found c.in-Ok.words.items
-    (λ told. c.in-Ok.ensures.given told ∙ ap (λ (n : ℕ). words_given (source_seen c.args.ask.now.source) (content_of (g.F.Files.seen c.args.files.now) (source_name (source_seen c.args.ask.now.source))) n) c.words_needed-needed.ensures)
-    (denied (λ enough. omega (arith, enough, held_is, less, c.words_needed-needed.ensures)) refl (refused_as _ _ _ _ _ _ line (c.refuse_by_text-then-len-needed.ensures _ c.words_short_text-text.ensures))))))
+pub ask-requires-clause-known : goal.ask-requires-clause-known
+ask-requires-clause-known g c = c.in-Ok.ensures.0.known
 
 pub write_asked-requires : goal.write_asked-requires
-write_asked-requires g c = subst (λ (set : ParamSet). IsBuilt set) (sym (set_of_asked _ _ _ c.in-Ok-ask.asked c.in-Ok-ask.ensures.asks.2)) c.in-Some.ensures.found.built
+write_asked-requires g c = subst (λ (set : ParamSet). IsBuilt set) (sym (set_of_asked _ _ _ c.in-Ok-ask.asked c.in-Ok-ask.ensures.asks.1)) c.in-Ok.ensures.0.names.built
 
-pub returns : goal.returns
-returns g c =
-    let asks = c.in-Ok-ask.ensures.asks in
-    let below : c.args.ask.now.index < max_records c.in-Some.set = asks.0 in
-    found c.in-Some.set c.in-Some.ensures.found (held below (behind c.read_words.ensures.only (found c.deref.result.now
-    (λ told. c.deref.ensures.value ∙ c.in-Ok.ensures.given told ∙ ap (λ (n : ℕ). words_given (source_seen c.args.ask.now.source) (content_of (g.F.Files.seen c.args.files.now) (source_name (source_seen c.args.ask.now.source))) n) c.words_needed-needed.ensures)
-    (held asks.1 (write_as _ _ _ _ (scene (g.F.Files.seen c.read_words.new.files) (g.F.Files.seen c.write_asked.new.files) (g.O.Sink.seen c.args.sink.now) (g.O.Sink.seen c.write_asked.new.sink)) c.write_asked.result
-    (outputs_are (ask_seen c.args.ask.now) c.in-Some.set c.deref.result.now c.in-Ok-ask.asked asks.2) (line_is (ask_seen c.args.ask.now) c.in-Some.set c.deref.result.now c.in-Ok-ask.asked asks.2) c.write_asked.ensures)))))
+pub returns-in-Ok-ask : goal.returns-in-Ok-ask
+returns-in-Ok-ask g c =
+    let a = ask_seen c.args.ask.now in
+    let is = c.in-Ok-ask.ensures.asks.1 in
+    with_given a.set_name a.index a.source (ask_rest a) _ _ _ _ _ _ c.in-Ok.given.set c.deref.result.now c.write_asked.result
+    (named_words a.set_name a.index a.source _ _ c.in-Ok.given.set _ c.deref.result.now c.deref.ensures.value c.in-Ok.ensures.0) c.in-Ok.ensures.1
+    (inr (inr (
+      is.fits,
+      write_as _ _ _ _ (scene (g.F.Files.seen c.given_words.new.files) (g.F.Files.seen c.write_asked.new.files) (g.O.Sink.seen c.given_words.new.sink) (g.O.Sink.seen c.write_asked.new.sink)) c.write_asked.result
+          (outputs_are a c.in-Ok.given.set c.deref.result.now c.in-Ok-ask.asked is) (line_is a c.in-Ok.given.set c.deref.result.now c.in-Ok-ask.asked is) c.write_asked.ensures,
+    )))
+
+pub returns-in-Err-TooNoisy : goal.returns-in-Err-TooNoisy
+returns-in-Err-TooNoisy g c =
+    let a = ask_seen c.args.ask.now in
+    let refused = rw c.in-Err-TooNoisy.field-0-is at c.in-Err-TooNoisy.ensures.asks in
+    let line = rw c.in-Err-TooNoisy.field-0-is at c.too_noisy_text.ensures in
+    with_given a.set_name a.index a.source (ask_rest a) (g.F.Files.seen c.args.files.now) (g.F.Files.seen c.given_words.new.files) (g.F.Files.seen c.given_words.new.files)
+    (g.O.Sink.seen c.args.sink.now) (g.O.Sink.seen c.given_words.new.sink) (g.O.Sink.seen c.refuse_by_text.new.sink) c.in-Ok.given.set c.deref.result.now c.refuse_by_text.result
+    (named_words a.set_name a.index a.source (g.F.Files.seen c.args.files.now) (g.F.Files.seen c.given_words.new.files) c.in-Ok.given.set c.in-Ok.given.words.items c.deref.result.now
+    c.deref.ensures.value c.in-Ok.ensures.0) c.in-Ok.ensures.1
+    (inr (inl (c.in-Err-TooNoisy.row, c.in-Err-TooNoisy.noise, refused.1, (refl, c.refuse_by_text.ensures (too_noisy_line c.in-Err-TooNoisy.row c.in-Err-TooNoisy.noise) line))))

@@ -19,7 +19,7 @@ returns-in-Err-read_message g c =
 
 pub returns-in-Err-WrongSet : goal.returns-in-Err-WrongSet
 returns-in-Err-WrongSet g c =
-    let opened = rw c.in-Err-WrongSet.field-0-is at c.in-Err-WrongSet.ensures in
+    let opened = rw c.in-Err-WrongSet.field-0-is at c.in-Err-WrongSet.ensures.opens in
     let line_is : wrong_set_line (name_of c.in-Err-WrongSet.expected) (name_of c.in-Err-WrongSet.found) ≡ wrong_set_line (name_of c.in-Ok.state.set) (name_of c.in-Ok-read_message.reply.set) =
     ap (λ (a : ParamSet). wrong_set_line (name_of a) (name_of c.in-Err-WrongSet.found)) opened.0 ∙ ap (λ (b : ParamSet). wrong_set_line (name_of c.in-Ok.state.set) (name_of b)) opened.1 in
     behind c.in-Ok.ensures.reads.only (found c.in-Ok.state c.in-Ok.ensures.reads.found (behind c.in-Ok-read_message.ensures.reads.only (found c.in-Ok-read_message.reply c.in-Ok-read_message.ensures.reads.found
@@ -27,7 +27,7 @@ returns-in-Err-WrongSet g c =
 
 pub returns-in-Err-Absent : goal.returns-in-Err-Absent
 returns-in-Err-Absent g c =
-    let opened = rw c.in-Err-Absent.field-0-is at c.in-Err-Absent.ensures in
+    let opened = rw c.in-Err-Absent.field-0-is at c.in-Err-Absent.ensures.opens in
     let line_is : absent_line c.in-Err-Absent.index c.in-Err-Absent.count ≡ absent_line c.in-Ok.state.index c.in-Ok-read_message.reply.count =
     ap (λ i. absent_line i c.in-Err-Absent.count) opened.1 ∙ ap (λ k. absent_line c.in-Ok.state.index k) opened.2 in
     behind c.in-Ok.ensures.reads.only (found c.in-Ok.state c.in-Ok.ensures.reads.found (behind c.in-Ok-read_message.ensures.reads.only (found c.in-Ok-read_message.reply c.in-Ok-read_message.ensures.reads.found
@@ -35,7 +35,7 @@ returns-in-Err-Absent g c =
 
 pub returns-in-Ok-open : goal.returns-in-Ok-open
 returns-in-Ok-open g c =
-    let opened = c.in-Ok-open.ensures in
+    let opened = c.in-Ok-open.ensures.opens in
     behind c.in-Ok.ensures.reads.only (found c.in-Ok.state c.in-Ok.ensures.reads.found (behind c.in-Ok-read_message.ensures.reads.only (found c.in-Ok-read_message.reply c.in-Ok-read_message.ensures.reads.found
     (held opened.0 (held opened.1 (write_as _ _ _ _ (scene (g.F.Files.seen c.read_message-2.new.files) (g.F.Files.seen c.write_record.new.files) (g.O.Sink.seen c.args.sink.now) (g.O.Sink.seen c.write_record.new.sink)) _
     (ap (one c.args.opening.now.out.now) (c.deref.ensures.value ∙ opened.2)) (ap record_line c.length.ensures.value) c.write_record.ensures))))))

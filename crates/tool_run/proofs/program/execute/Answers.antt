@@ -1,5 +1,5 @@
 use Rattle.std.proofs.Common.{inl}
-use Rattle.tool_base.specs.Words.{the_prepare, the_ask, the_answer, the_open, prepare_seen, ask_seen, answer_seen, open_seen}
+use Rattle.tool_base.specs.Words.{the_prepare, the_ask, the_answer, the_open, the_noise, prepare_seen, ask_seen, answer_seen, open_seen, noise_seen}
 use Rattle.tool_run.proofs.Executed.{given}
 use Rattle.tool_run.proofs.program.execute.Goals as goal
 
@@ -28,3 +28,8 @@ pub returns-in-Some-Open : goal.returns-in-Some-Open
 returns-in-Some-Open g c =
     let asked = given _ _ _ c.in-Some-Open.field-0-is c.in-Some-Open.ensures in
     inl (record { name = the_open; said = open_seen c.in-Some-Open.open }, asked.0, asked.1, c.open_files.ensures)
+
+pub returns-in-Some-Noise : goal.returns-in-Some-Noise
+returns-in-Some-Noise g c =
+    let asked = given _ _ _ c.in-Some-Noise.field-0-is c.in-Some-Noise.ensures in
+    inl (record { name = the_noise; said = noise_seen c.in-Some-Noise.noise }, asked.0, asked.1, c.noise_files.ensures)

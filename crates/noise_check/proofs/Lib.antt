@@ -1,0 +1,5 @@
+pub mod SumsSoFar
+pub mod RowNoises
+pub mod ReportRows
+pub mod SideBounds
+pub mod FittingRows

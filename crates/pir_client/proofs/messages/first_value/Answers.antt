@@ -1,5 +1,0 @@
-use Rattle.ring_poly.proofs.Modulus.{q_some}
-use Rattle.pir_client.proofs.messages.first_value.Goals as goal
-
-pub returns-else-u-place_of-clause-below : goal.returns-else-u-place_of-clause-below
-returns-else-u-place_of-clause-below c = q_some
