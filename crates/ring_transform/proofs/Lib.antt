@@ -1,0 +1,16 @@
+pub mod Polynomials
+pub mod Nodes
+pub mod Descent
+pub mod Halving
+pub mod Blocks
+pub mod Pairs
+pub mod Factors
+pub mod Sizes
+pub mod Fours
+pub mod Filling
+pub mod Entries
+pub mod Determined
+pub mod Products
+pub mod Whole
+pub mod Composed
+pub mod Interpolation

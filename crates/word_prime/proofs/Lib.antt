@@ -1,0 +1,6 @@
+pub mod Steps
+mod Remainders
+pub mod Halves
+pub mod Joined
+mod Powers
+mod Places
