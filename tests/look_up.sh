@@ -85,6 +85,17 @@ expect "an answer of 15 bits" 0 "reply stream-2048 32810 bytes" answer three_db 
 tail -c 15360 three_records > third
 expect "a record of 15 bits" 0 "record 15360 bytes" open long_state long_reply record_3; same "a record of 15 bits" record_3 third
 
+# ---- a look-up among as many and as long records as stream-2048 has, of which no two are alike: each has its number in it
+
+for ((k = 0; k < 512; k++)); do printf "%-15360s" "record $k of the set's 512"; done | tr ' ' '.' > all_records
+expect "all records" 0 "database stream-2048 512 records of 15360 bytes" prepare stream-2048 15360 all_records all_db
+for k in 0 291 511; do
+  expect "a query among all records" 0 "query stream-2048 setup 0 bytes query 8601626 bytes" ask stream-2048 $k seed:seed all_state all_setup all_query
+  expect "an answer of all records" 0 "reply stream-2048 32810 bytes" answer all_db all_setup all_query all_reply 4
+  tail -c +$((15360 * k + 1)) all_records | head -c 15360 > wanted_k
+  expect "record $k of 512" 0 "record 15360 bytes" open all_state all_reply record_k; same "record $k of 512" record_k wanted_k
+done
+
 # ---- what `answer` refuses, each before REPLY is made
 
 # refused NAME HEX CODE PLACE: a database of these bytes.

@@ -9,7 +9,11 @@ if [ ! -r "$replay" ] || [ ! -r "$cases" ]; then
   exit 0
 fi
 status=0
-ONLY="3 4" BUILT="prepare ask answer open noise" "$replay" "$program" "$cases" || status=1
+# Two cases want the line of a refused query, reply or state, which comes with the decoder.
+grep -v $'^o25[56]\t' "$cases" > cases_so_far
+for set in edge-256 tiny-stream stream-2048; do
+  ONLY="3 4 11" BUILT="prepare ask answer open noise" "$replay" "$program" "$PWD/cases_so_far" "$set" || status=1
+done
 for set in edge-256 tiny-stream; do
   ONLY=9 BUILT=noise "$replay" "$program" "$cases" "$set" || status=1
 done

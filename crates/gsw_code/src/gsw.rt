@@ -31,7 +31,7 @@ impl Model for Gsw {
 
 /// A query as a server works with it, in product form: the ciphertexts of the first dimension by place, within a place by
 /// column, and the GSW ciphertext of each selection, that of the highest bit first.
-#[derive(Debug, Drop)]
+#[derive(Debug)]
 pub struct Ready {
     pub firsts: Vec<CipherT>,
     pub gsws: Vec<Gsw>,
@@ -43,6 +43,13 @@ impl Model for Ready {
     ghost Value = { ReadyOf };
 
     ghost view = { λ r. record { firsts = r.firsts.items; gsws = r.gsws.items } };
+}
+
+/// By hand: a caller's proof then takes one step for it, and not one for each of its lists.
+impl Drop for Ready {
+    fn drop(self) {
+        let Self { firsts: _, gsws: _ } = self;
+    }
 }
 
 /// Ciphertexts of a set in product form, one by one.

@@ -21,7 +21,6 @@ use std::marker::Model;
 
 /// The secrets, one row that is measured, and room for it, so that measuring takes no memory. Seen as the degree, the
 /// secrets and the row.
-#[derive(Drop)]
 pub(crate) struct Workspace<'a> {
     secrets: &'a Secret,
     /// the row, counted from 0
@@ -47,6 +46,21 @@ impl<'a> Model for Workspace<'a> {
     ghost view = { λ w. record { degree = length w.secret; secrets = w.secrets.now; row = w.row } };
 
     ghost invariant = { λ w. IsWorkspace (record { degree = length w.secret; secrets = w.secrets.now; row = w.row }) w.secret w.product w.masked w.phase w.message };
+}
+
+/// By hand: a caller's proof then takes one step for it, and not one for each of its lists.
+impl Drop for Workspace<'_> {
+    fn drop(self) {
+        let Self {
+            secrets: _,
+            row: _,
+            secret: _,
+            product: _,
+            masked: _,
+            phase: _,
+            message: _,
+        } = self;
+    }
 }
 
 /// The norm of what a ciphertext's phase has in a row beyond a message, with the row's secret in product form. N is at

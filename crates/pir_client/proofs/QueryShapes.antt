@@ -1,17 +1,18 @@
 -- The shape of a query's ciphertexts, and what `ask` sends.
-use Rattle.std.proofs.Common.{◌≡◌, ℕ, suc, ◌+◌, ◌-◌, ◌*◌, ◌<◌, ◌≤◌, Bool, true, false, ℤ, List, [], ◌∷◌, Option, None, length, get_or, map, take, All, refl, sym, ◌∙◌, ap, arith, subst}
+use Rattle.std.proofs.Common.{◌≡◌, ℕ, suc, ◌+◌, ◌-◌, ◌*◌, ◌<◌, ◌≤◌, Bool, true, false, ℤ, List, [], ◌∷◌, Option, None, length, get_or, map, take, if◌then◌else◌, All, refl, sym, ◌∙◌, ap, arith, subst}
 use Rattle.std.specs.List.{range_with_len, flat_map}
 use Rattle.std.proofs.lemmas.Bool.{true≢false}
+use Rattle.std.proofs.lemmas.List.{length-map}
 use Rattle.std.proofs.lemmas.List.FromFn.{length-map-range_with_len}
 use Rattle.std.proofs.lemmas.List.Elements.{All-nil, All-cons, All-head, All-tail, All-same}
 use Rattle.negacyclic.specs.Ring.{ring_mul, ring_add}
 use Rattle.negacyclic.proofs.Lengths.{length-ring_add, ring_add-below}
 use Rattle.ring_poly.proofs.Modulus.{q_some}
 use Rattle.spiral_sets.specs.declared.param_set.ParamSet.{ParamSet}
-use Rattle.spiral_sets.specs.Sets.{IsSet, IsBuilt, q, places, rows}
+use Rattle.spiral_sets.specs.Sets.{IsSet, IsBuilt, q, places, rows, has_keys}
 use Rattle.spiral_sets.specs.Counts.{firsts_count, words_needed, secret_words}
 use Rattle.spiral_model.specs.Words.{Poly, Cipher}
-use Rattle.spiral_model.specs.Sampling.{uniform_poly, error_poly, secret_poly}
+use Rattle.spiral_model.specs.Sampling.{uniform_poly, error_poly, secret_numbers, secret_poly}
 use Rattle.spiral_model.specs.Ciphertexts.{encrypted_row, encrypted_rows, encrypted, encrypted_all, words_taken, IsCipher}
 use Rattle.spiral_model.specs.Replies.{QueryState}
 use Rattle.spiral_model.specs.Bodies.{CipherBody, IsQuery, query_rows}
@@ -120,6 +121,15 @@ secrets-plain : (set : ParamSet) (words : List ℕ) (secret : Secrets) → set.p
 secrets-plain set words secret plain drawn =
     under-rows set.degree secret set.pack plain
     ∙ ap (λ (rs : List (List ℤ)). map (secret_poly set.degree) rs) (ap (λ (s : Secrets). s.rows) drawn ∙ secrets_from-rows set words)
+
+-- how many they are
+pub row_secrets-count : (set : ParamSet) (words : List ℕ) (start : ℕ) (secret : Secrets) → set.pack ≡ false → secret ≡ secrets_from set words start → length (row_secrets_of set secret) ≡ rows set
+row_secrets-count set words start secret plain is =
+    ap length (under-rows set.degree secret set.pack plain)
+    ∙ length-map secret.rows (secret_poly set.degree)
+    ∙ ap (λ (s : Secrets). length s.rows) is
+    ∙ length-map-range_with_len (λ r. secret_numbers set.degree words (start + (if has_keys set then set.degree else 0) + r * set.degree)) 0 set.n
+    ∙ sym (ap (λ (b : Bool). if b then 1 else set.n) plain)
 
 -- the secrets at the front of the words
 first-secrets : (set : ParamSet) (words : List ℕ) (secret : Secrets) (first : Cursor) → first ≡ record { words = words; used = 0 }

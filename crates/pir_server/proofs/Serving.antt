@@ -1,8 +1,9 @@
 -- What a server keeps over an answer, and that it is the answer.
-use Rattle.std.proofs.Common.{◌≡◌, ℕ, ◌+◌, ◌≤◌, List, length, slice_index_or, slice_set, take, All, Bool, false, if◌then◌else◌, Option, refl, sym, ◌∙◌, ap, subst, arith}
-use Rattle.std.proofs.lemmas.List.Elements.{All-same, All-set, All-take}
+use Rattle.std.proofs.Common.{◌≡◌, ℕ, ◌+◌, ◌*◌, ◌^◌, ◌≤◌, List, length, slice_index_or, slice_set, take, replicate, All, Bool, false, if◌then◌else◌, Option, refl, sym, ◌∙◌, ap, subst, arith}
+use Rattle.std.proofs.lemmas.List.{length-replicate}
+use Rattle.std.proofs.lemmas.List.Elements.{All-same, All-set, All-take, All-replicate}
 use Rattle.spiral_sets.specs.declared.param_set.ParamSet.{ParamSet}
-use Rattle.spiral_model.specs.Sets.{rows, columns}
+use Rattle.spiral_model.specs.Sets.{IsSet, IsBuilt, rows, columns}
 use Rattle.spiral_model.specs.Words.{Cipher}
 use Rattle.spiral_model.specs.Databases.{RecordTable, record_count, matrices_of}
 use Rattle.spiral_model.specs.Replies.{SwitchedReply, switched_body, switched_mask}
@@ -12,6 +13,7 @@ use Rattle.spiral_model.specs.Packing.{packed}
 use Rattle.spiral_model.specs.Answering.{Ready, first_products, folded, result_columns, result_of, reply_of, answer_of}
 use Rattle.regev_code.specs.Products.{HasShape}
 use Rattle.modulus_switch.specs.Places.{zero_reply}
+use Rattle.regev_code.proofs.Products.{zeros_shape}
 use Rattle.first_dim.specs.Preparations.{PreparedRecords}
 use Rattle.pir_server.specs.Served.{IsServed}
 
@@ -37,6 +39,27 @@ sets_kept s t items shown lent back set_is sets some lent_is back_is shown_is =
     let given : back ≡ t = back_is ∙ lent_is ∙ sets 0 lent some in
     let all : All (λ u. u ≡ t) shown = All-same (λ u. u ≡ t) shown (slice_set items 0 back) shown_is (All-set (λ u. u ≡ t) items 0 back given sets) in
     subst (λ (v : ParamSet). All (λ u. u ≡ v) shown) (sym set_is) all
+
+-- ---- what a server keeps from the start
+
+pub served_new : (table : RecordTable) (prepared : PreparedRecords) (ring : ℕ) (s : ParamSet) (workers : ℕ) (scratch : List ParamSet) (outputs : List Cipher) → IsSet table.set → IsBuilt table.set → s ≡ table.set
+    → prepared ≡ record { set = table.set; matrices = matrices_of table } → ring ≡ s.degree → 1 ≤ workers → workers ≤ 64 → scratch ≡ replicate workers s
+    → outputs ≡ replicate (2 ^ s.nu2 * columns s) (replicate {A = List ℕ} (rows s + 1) (replicate {A = ℕ} s.degree 0)) → IsServed table prepared ring scratch outputs
+served_new table prepared ring s workers scratch outputs known built set_is prepared_is ring_is some few scratch_is outputs_is =
+    let t : ParamSet = table.set in
+    let size : length scratch ≡ workers = ap length scratch_is ∙ length-replicate {A = ParamSet} workers s in
+    let zeros : outputs ≡ replicate (2 ^ t.nu2 * columns t) (replicate {A = List ℕ} (rows t + 1) (replicate {A = ℕ} t.degree 0)) = outputs_is ∙ ap (λ (u : ParamSet). replicate (2 ^ u.nu2 * columns u) (replicate {A = List ℕ} (rows u + 1) (replicate {A = ℕ} u.degree 0))) set_is in
+    record {
+      known = known;
+      built = built;
+      same = prepared_is;
+      degree = ring_is ∙ ap (λ (u : ParamSet). u.degree) set_is;
+      some = omega (arith, size);
+      few = omega (arith, size);
+      sets = All-same (λ u. u ≡ t) scratch (replicate workers s) scratch_is (All-replicate (λ u. u ≡ t) workers s set_is);
+      count = ap length zeros ∙ length-replicate {A = List (List ℕ)} (2 ^ t.nu2 * columns t) (replicate {A = List ℕ} (rows t + 1) (replicate {A = ℕ} t.degree 0));
+      shapes = All-same (HasShape t.degree (rows t + 1)) outputs _ zeros (All-replicate (HasShape t.degree (rows t + 1)) (2 ^ t.nu2 * columns t) (replicate {A = List ℕ} (rows t + 1) (replicate {A = ℕ} t.degree 0)) (zeros_shape t.degree (rows t + 1) _ refl));
+    }
 
 -- ---- what a server keeps, with other scratches and outputs of the same shapes
 

@@ -9,6 +9,7 @@ use Rattle.negacyclic.proofs.Lengths.{length-ring_add}
 use Rattle.negacyclic.proofs.Lists.{all_range, at_range}
 use Rattle.spiral_model.specs.Sets.{q}
 use Rattle.spiral_model.specs.Words.{Poly, Cipher, row_of}
+use Rattle.regev_code.specs.Products.{HasShape}
 use Rattle.regev_code.specs.Shapes.{IsCipher}
 
 -- ---- what a ciphertext keeps
@@ -56,3 +57,11 @@ length-with_product N a key sum = length-map-range_with_len (λ i. ring_add q N 
 pub with_product-degree : (N : ℕ) (a : Poly) (key sum : Cipher) → All (λ b. length b ≡ N) (with_product N a key sum)
 with_product-degree N a key sum =
     all_range (λ (b : Poly). length b ≡ N) (λ i. ring_add q N (row_of sum i) (ring_mul q N a (row_of key i))) (length sum) (λ k h. length-ring_add q N _ _)
+
+-- Rows of zeros have their shape.
+pub zeros_shape : (N count : ℕ) (c : Cipher) → c ≡ replicate count (replicate {A = ℕ} N 0) → HasShape N count c
+zeros_shape N count c is =
+    record {
+      rows_count = ap length is ∙ length-replicate count (replicate {A = ℕ} N 0);
+      degree = All-same (λ (a : Poly). length a ≡ N) c (replicate count (replicate {A = ℕ} N 0)) is (zeros-degree N count);
+    }

@@ -3,7 +3,6 @@ use Rattle.std.proofs.Common.{◌≡◌, ℕ, ◌+◌, ◌*◌, ℤ, Bool, true,
 use Rattle.std.specs.List.{range_with_len}
 use Rattle.std.specs.Option.{option_to_list}
 use Rattle.std.proofs.lemmas.List.Elements.{All-nil, All-cons}
-use Rattle.std.proofs.lemmas.List.FromFn.{length-map-range_with_len}
 use Rattle.negacyclic.proofs.Lists.{same_range, all_range, pushed_more}
 use Rattle.spiral_model.specs.Sampling.{secret_numbers}
 use Rattle.spiral_model.specs.Dealing.{secret_rows}

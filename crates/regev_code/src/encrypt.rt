@@ -13,7 +13,6 @@ use std::marker::Model;
 
 /// The uniform part of a ciphertext, with room in which the rows behind it are worked out one after the other. Seen
 /// as the uniform part.
-#[derive(Drop)]
 struct Mask {
     uniform: PolyT,
     /// a row's secret
@@ -32,6 +31,18 @@ impl Model for Mask {
     ghost view = { λ m. m.uniform };
 
     ghost invariant = { λ m. (length m.secret ≡ length m.uniform) × (length m.product ≡ length m.uniform) × (length m.poly ≡ length m.uniform) };
+}
+
+/// By hand: a caller's proof then takes one step for it, and not one for each of its lists.
+impl Drop for Mask {
+    fn drop(self) {
+        let Self {
+            uniform: _,
+            secret: _,
+            product: _,
+            poly: _,
+        } = self;
+    }
 }
 
 impl Mask {

@@ -18,7 +18,7 @@ impl Model for SwitchKey {
 }
 
 /// The keys of a set in product form, in the order of a Setup body.
-#[derive(Debug, Drop)]
+#[derive(Debug)]
 pub struct EvalKeys {
     pub(crate) set: ParamSet,
     /// the automorphism key of round 0
@@ -39,4 +39,18 @@ impl Model for EvalKeys {
     ghost Value = { SetKeys };
 
     ghost view = { λ k. record { set = k.set; round0 = k.round0.items; left = k.left.items; right = k.right.items; lift = k.lift.items; conv = k.conv } };
+}
+
+/// By hand: a caller's proof then takes one step for it, and not one for each of its lists.
+impl Drop for EvalKeys {
+    fn drop(self) {
+        let Self {
+            set: _,
+            round0: _,
+            left: _,
+            right: _,
+            lift: _,
+            conv: _,
+        } = self;
+    }
 }

@@ -10,7 +10,6 @@ use std::alloc::Global;
 use std::marker::Model;
 
 /// Room in which digit sums of a set are worked out, so that they take no memory. Seen as its set alone.
-#[derive(Drop)]
 pub struct Room {
     set: ParamSet,
     /// the numbers of a polynomial
@@ -34,6 +33,19 @@ impl Model for Room {
     ghost invariant = { λ r. IsRoom r.set r.numbers.items r.digits.items r.poly r.form };
 }
 
+/// By hand: a caller's proof then takes one step for it, and not one for each of its lists.
+impl Drop for Room {
+    fn drop(self) {
+        let Self {
+            set: _,
+            numbers: _,
+            digits: _,
+            poly: _,
+            form: _,
+        } = self;
+    }
+}
+
 impl Room {
     /// Room for a set.
     pub fn new(alloc: Global, set: &ParamSet) -> Result<Room, NoMemory>
@@ -53,7 +65,6 @@ impl Room {
 }
 
 /// Room in which a set's products of ciphertexts are worked out, so that they take no memory. Seen as its set alone.
-#[derive(Drop)]
 pub struct Scratch {
     pub set: ParamSet,
     pub room: Room,
@@ -74,6 +85,20 @@ impl Model for Scratch {
     ghost view = { λ s. s.set };
 
     ghost invariant = { λ s. IsScratch s.set s.room s.matrix s.scalar s.first s.second };
+}
+
+/// By hand: a caller's proof then takes one step for it, and not one for each of its lists.
+impl Drop for Scratch {
+    fn drop(self) {
+        let Self {
+            set: _,
+            room: _,
+            matrix: _,
+            scalar: _,
+            first: _,
+            second: _,
+        } = self;
+    }
 }
 
 impl Scratch {

@@ -14,7 +14,6 @@ use std::alloc::Global;
 use std::marker::Model;
 
 /// One secret: its numbers, and the same as a polynomial.
-#[derive(Drop)]
 struct Key {
     numbers: Vec<i8>,
     poly: Poly,
@@ -30,6 +29,16 @@ impl Model for Key {
     ghost view = { λ k. k.numbers.items };
 
     ghost invariant = { λ k. All IsTernary k.numbers.items × (k.poly ≡ secret_poly (length k.numbers.items) k.numbers.items) };
+}
+
+/// By hand: a caller's proof then takes one step for it, and not one for each of its lists.
+impl Drop for Key {
+    fn drop(self) {
+        let Self {
+            numbers: _,
+            poly: _,
+        } = self;
+    }
 }
 
 /// n zeros.
@@ -77,7 +86,6 @@ impl Key {
 }
 
 /// A client's secrets: the scalar one, where the set has keys, and s_1 to s_n.
-#[derive(Drop)]
 pub struct Secret {
     scalar: Option<Key>,
     rows: Vec<Key>,
@@ -92,6 +100,13 @@ impl Model for Secret {
     ghost view = { λ s. record { scalar = s.scalar; rows = s.rows.items } };
 
     ghost invariant = { λ s. length s.rows.items < 2 ^ 31 };
+}
+
+/// By hand: a caller's proof then takes one step for it, and not one for each of its lists.
+impl Drop for Secret {
+    fn drop(self) {
+        let Self { scalar: _, rows: _ } = self;
+    }
 }
 
 /// How many words a set's secrets take.

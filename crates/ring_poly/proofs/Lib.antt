@@ -1,4 +1,6 @@
 pub mod Modulus
-pub mod Constants
-pub mod Powers
-pub mod Products
+mod Powers
+mod Places
+mod Held
+mod Values
+mod Terms

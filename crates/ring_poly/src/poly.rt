@@ -1,29 +1,41 @@
+//! Polynomials by their coefficients.
+
 ghost use Rattle.std.specs.Prelude.{◌≡◌, ◌-◌, ◌*◌, ◌/◌, ◌<◌, ◌≤◌, ◌==◌, if◌then◌else◌, pos, length, replicate, IfOk};
 ghost use Rattle.negacyclic.specs.Residues.{norm};
 ghost use Rattle.negacyclic.specs.Ring.{reduced, ring_add, ring_sub};
 ghost use Rattle.spiral_sets.specs.Sets.{q};
 ghost use Rattle.ring_poly.specs.Polynomials.{IsDegree, AreResidues};
 
-use crate::coefficients;
+use crate::{lanes, pairs};
 use no_memory::NoMemory;
 use std::alloc::Global;
 use std::marker::Model;
+use word_prime::{P1, P2, add_lanes, reduce_lanes, sub_lanes};
 
-/// A polynomial, seen as the list of its N coefficients, each a residue below q.
-#[derive(Debug, Drop)]
+/// A polynomial, seen as the list of its N coefficients, each a residue below q. It is held as the residues of the coefficients
+/// modulo the two primes.
+#[derive(Debug)]
 pub struct Poly {
-    pub(crate) numbers: Vec<u64>,
+    pub(crate) ones: Vec<u32>,
+    pub(crate) twos: Vec<u32>,
 }
 
 impl Model for Poly {
     ghost use Rattle.std.specs.Prelude.{List, ℕ};
-    ghost use Rattle.ring_poly.specs.Polynomials.{AreResidues};
+    ghost use Rattle.word_prime.specs.Halves.{joined, AreHalves};
 
     ghost Value = { List ℕ };
 
-    ghost view = { λ a. a.numbers.items };
+    ghost view = { λ a. joined a.ones.items a.twos.items };
 
-    ghost invariant = { λ a. AreResidues a.numbers.items };
+    ghost invariant = { λ a. AreHalves a.ones.items a.twos.items };
+}
+
+/// By hand: a caller's proof then takes one step for it, and not one for each of its lists.
+impl Drop for Poly {
+    fn drop(self) {
+        let Self { ones: _, twos: _ } = self;
+    }
 }
 
 impl Poly {
@@ -33,7 +45,8 @@ impl Poly {
         ensures { IfOk result (λ a. a ≡ replicate n 0) }
     {
         Ok(Poly {
-            numbers: coefficients::zeros(alloc, n)?,
+            ones: lanes::zeros(alloc, n)?,
+            twos: lanes::zeros(alloc, n)?,
         })
     }
 
@@ -43,9 +56,11 @@ impl Poly {
         requires residues { AreResidues c.now }
         ensures { IfOk result (λ a. a ≡ c.now) }
     {
-        Ok(Poly {
-            numbers: c.to_vec(alloc)?,
-        })
+        let mut ones = lanes::zeros(alloc, c.len())?;
+        let mut twos = lanes::zeros(alloc, c.len())?;
+        reduce_lanes::<P1>(c, &mut ones);
+        reduce_lanes::<P2>(c, &mut twos);
+        Ok(Poly { ones, twos })
     }
 
     /// The same polynomial.
@@ -53,7 +68,8 @@ impl Poly {
         ensures { IfOk result (λ a. a ≡ self.now) }
     {
         Ok(Poly {
-            numbers: self.numbers.clone()?,
+            ones: self.ones.clone()?,
+            twos: self.twos.clone()?,
         })
     }
 
@@ -63,9 +79,9 @@ impl Poly {
         requires residue { z < q }
         ensures { IfOk result (λ a. a ≡ reduced q n (λ k. if k == 0 then pos z else pos 0)) }
     {
-        let mut numbers = coefficients::zeros(alloc, n)?;
-        numbers[0] = z;
-        Ok(Poly { numbers })
+        let mut constant = Poly::zero(alloc, n)?;
+        constant.put_constant(z);
+        Ok(constant)
     }
 
     /// The degree N: how many coefficients there are. It also makes known that they are residues.
@@ -73,7 +89,7 @@ impl Poly {
         ensures value { result ≡ length self.now }
         ensures residues { AreResidues self.now }
     {
-        self.numbers.len()
+        self.ones.len()
     }
 
     /// Writes the coefficients, the constant one first. It takes no memory.
@@ -82,14 +98,15 @@ impl Poly {
         ensures value { out.new ≡ self.now }
         ensures residues { AreResidues out.new }
     {
-        out.copy_from_slice(&self.numbers);
+        pairs::join(&self.ones, &self.twos, out);
     }
 
     /// Becomes 0, of the same degree. It takes no memory.
     pub fn clear(&mut self)
         ensures { self.new ≡ replicate (length self.old) 0 }
     {
-        coefficients::clear(&mut self.numbers);
+        lanes::clear(&mut self.ones);
+        lanes::clear(&mut self.twos);
     }
 
     /// Becomes the polynomial whose constant coefficient is z and whose others are 0, as many as it had. It takes no memory.
@@ -98,7 +115,8 @@ impl Poly {
         ensures value { self.new ≡ reduced q (length self.old) (λ k. if k == 0 then pos z else pos 0) }
         ensures degree { length self.new ≡ length self.old }
     {
-        coefficients::put_constant(&mut self.numbers, z);
+        lanes::put_constant::<P1>(&mut self.ones, z);
+        lanes::put_constant::<P2>(&mut self.twos, z);
     }
 
     /// Becomes the polynomial with these coefficients, as many as it had. It takes no memory.
@@ -107,7 +125,8 @@ impl Poly {
         requires residues { AreResidues c.now }
         ensures { self.new ≡ c.now }
     {
-        self.numbers.copy_from_slice(c);
+        reduce_lanes::<P1>(c, &mut self.ones);
+        reduce_lanes::<P2>(c, &mut self.twos);
     }
 
     /// Becomes the sum of itself and b. It takes no memory.
@@ -116,7 +135,8 @@ impl Poly {
         ensures value { self.new ≡ ring_add q (length self.old) self.old b.now }
         ensures degree { length self.new ≡ length self.old }
     {
-        coefficients::add(&mut self.numbers, &b.numbers);
+        add_lanes::<P1>(&mut self.ones, &b.ones);
+        add_lanes::<P2>(&mut self.twos, &b.twos);
     }
 
     /// Becomes the difference of itself and b. It takes no memory.
@@ -125,7 +145,8 @@ impl Poly {
         ensures value { self.new ≡ ring_sub q (length self.old) self.old b.now }
         ensures degree { length self.new ≡ length self.old }
     {
-        coefficients::subtract(&mut self.numbers, &b.numbers);
+        sub_lanes::<P1>(&mut self.ones, &b.ones);
+        sub_lanes::<P2>(&mut self.twos, &b.twos);
     }
 
     /// The norm: the sum of the absolute values of the coefficients' centred representatives, x where x is at most
@@ -134,6 +155,6 @@ impl Poly {
         ensures value { result ≡ norm q self.now }
         ensures size { result ≤ length self.now * ((q - 1) / 2) }
     {
-        coefficients::norm1(&self.numbers)
+        pairs::norm1(&self.ones, &self.twos)
     }
 }

@@ -11,7 +11,7 @@ use std::alloc::Global;
 use std::marker::Model;
 
 /// The tables for polynomials of a degree n modulo P, seen as n. They are made once, and serve any number of transforms.
-#[derive(Debug, Drop)]
+#[derive(Debug)]
 pub struct Tables<const P: u32> {
     degree: usize,
     twiddles: Vec<u32>,
@@ -32,6 +32,22 @@ impl<const P: u32> Model for Tables<P> {
     ghost view = { λ t. t.degree };
 
     ghost invariant = { λ t. AreTables P t.degree t.twiddles.items t.quotients.items t.inverses.items t.inverse_quotients.items t.leaves.items t.scale t.scale_quotient };
+}
+
+/// By hand: a caller's proof then takes one step for it, and not one for each of its lists.
+impl<const P: u32> Drop for Tables<P> {
+    fn drop(self) {
+        let Self {
+            degree: _,
+            twiddles: _,
+            quotients: _,
+            inverses: _,
+            inverse_quotients: _,
+            leaves: _,
+            scale: _,
+            scale_quotient: _,
+        } = self;
+    }
 }
 
 /// How many layers there are above parts of four coefficients.

@@ -10,4 +10,6 @@ mod outside;
 #[cfg(test)]
 mod polynomials;
 #[cfg(test)]
+mod residues;
+#[cfg(test)]
 mod server;

@@ -81,6 +81,27 @@ fn products_are_added(rt: HostRuntime) -> Result<(), Fail> {
 }
 
 #[test]
+#[tactic(auto, unfolding(spiral_sets::specs::Sets::q))]
+fn automorphisms_by_hand(rt: HostRuntime) -> Result<(), Fail> {
+    let alloc = rt.alloc();
+    let ring = Ring::new(alloc, 256)?;
+    let mut out = Poly::zero(alloc, 256)?;
+    // x^258 = -x^2
+    ring.auto(129, &polynomial(&rt, alloc, &[(2, 1)])?, &mut out);
+    expect_polynomial(&rt, alloc, &out, &[(2, Q - 1)])?;
+    // x^129, and x^(257 255) = x^(255 + 256 255) = -x^255
+    ring.auto(129, &polynomial(&rt, alloc, &[(1, 1)])?, &mut out);
+    expect_polynomial(&rt, alloc, &out, &[(129, 1)])?;
+    ring.auto(
+        257,
+        &polynomial(&rt, alloc, &[(254, 1), (255, 1)])?,
+        &mut out,
+    );
+    expect_polynomial(&rt, alloc, &out, &[(254, 1), (255, Q - 1)])?;
+    Ok(())
+}
+
+#[test]
 fn digits_of_two_numbers(rt: HostRuntime) {
     // the second is q - 1
     let x = [300, 66974689739603968];

@@ -1,5 +1,5 @@
 //! A server's work on edge-256, step by step and in one call. The expected numbers are worked out by hand.
-ghost use Rattle.std.specs.Prelude.{◌≡◌, ◌<◌, ◌≤◌, All, IfOk, IsTrue};
+ghost use Rattle.std.specs.Prelude.{◌≡◌, ◌<◌, ◌≤◌, length, All, IfOk, IsTrue};
 ghost use Rattle.regev_code.specs.Products.{HasShape};
 ghost use Rattle.gsw_code.specs.Products.{IsReady};
 ghost use Rattle.spiral_tests.specs.Edge.{edge};
@@ -45,12 +45,16 @@ fn have_shape(ciphers: &[Cipher]) -> bool
 }
 
 /// Room for the first dimension: 2 ciphertexts for each of 2 folded places.
-fn room(rt: &impl Abort, alloc: Global) -> Result<Vec<Cipher>, Fail> {
+fn room(rt: &impl Abort, alloc: Global) -> Result<Vec<Cipher>, Fail>
+    ensures count { IfOk result (λ ciphers. length ciphers.items ≡ 4) }
+    ensures shapes { IfOk result (λ ciphers. All (HasShape 256 3) ciphers.items) }
+{
     let set = edge_set(rt);
     let mut ciphers = Vec::new(alloc);
     for _ in 0..4 {
         ciphers.push(Cipher::zero(alloc, &set, 2)?)?;
     }
+    assert!(rt; ciphers.len() == 4 && have_shape(&ciphers));
     Ok(ciphers)
 }
 
@@ -101,7 +105,6 @@ fn first_dimension<R: Threads + Sync + Abort>(
     let ring = Ring::new(alloc, 256)?;
     let prepared = Prepared::new(rt, alloc, &ring, &database(rt, alloc)?)?;
     let mut out = room(rt, alloc)?;
-    assert!(rt; out.len() == 4 && have_shape(&out));
     let mut scratch = [Scratch::new(alloc, &edge_set(rt))?];
     let firsts = &ready.firsts;
     products(

@@ -1,7 +1,11 @@
 use Rattle.std.proofs.Common.{◌≡◌}
 use Rattle.spiral_model.specs.Dealing.{scalar_secret, query_body_of}
-use Rattle.pir_client.proofs.QueryShapes.{query-drawn, state-drawn, report-dealt}
+use Rattle.pir_client.proofs.QueryShapes.{query-drawn, state-drawn, report-dealt, row_secrets-count}
 use Rattle.pir_client.proofs.asking.deal.Goals as goal
+
+pub measure-requires-clause-secrets : goal.measure-requires-clause-secrets
+measure-requires-clause-secrets c =
+    row_secrets-count c.args.set.now c.new-draw.result.words c.new-draw.result.used c.in_ok-secret.secret c.requires.built.1 c.in_ok-secret.ensures.ok
 
 pub returns : goal.returns
 returns c =

@@ -1,7 +1,5 @@
-use Rattle.spiral_sets.specs.Sets.{q}
-use Rattle.negacyclic.proofs.Lengths.{zeros_below}
-use Rattle.ring_poly.proofs.Modulus.{q_some}
+use Rattle.ring_poly.proofs.Held.{zeros_hold}
 use Rattle.ring_poly.proofs.poly.Poly.zero.Goals as goal
 
-pub invariant_of-result : goal.invariant_of-result
-invariant_of-result c = rw c.in_ok-zeros.ensures (zeros_below q c.args.n q_some)
+pub returns : goal.returns
+returns c = (zeros_hold c.args.n c.in_ok-zeros.field-0.items c.in_ok-zeros-2.field-0.items c.in_ok-zeros.ensures c.in_ok-zeros-2.ensures).view

@@ -1,7 +1,8 @@
-use Rattle.spiral_sets.specs.Sets.{q}
-use Rattle.negacyclic.proofs.Lengths.{zeros_below}
-use Rattle.ring_poly.proofs.Modulus.{q_some}
+use Rattle.ring_poly.proofs.Values.{zeros_show, shown_as}
 use Rattle.ring_poly.proofs.product.PolyT.zero.Goals as goal
 
 pub invariant_of-result : goal.invariant_of-result
-invariant_of-result c = rw c.in_ok-zeros.ensures (zeros_below q c.args.n q_some)
+invariant_of-result c = (shown_as c.in_ok-zeros.ensures c.in_ok-zeros-2.ensures (zeros_show c.args.n c.requires)).valid
+
+pub returns : goal.returns
+returns c = (shown_as c.in_ok-zeros.ensures c.in_ok-zeros-2.ensures (zeros_show c.args.n c.requires)).view

@@ -1,8 +1,0 @@
-use Rattle.std.proofs.Common.{◌==◌, if◌then◌else◌, pos}
-use Rattle.negacyclic.specs.Residues.{residue}
-use Rattle.spiral_sets.specs.Sets.{q}
-use Rattle.negacyclic.proofs.Filled.{Filled}
-use Rattle.ring_poly.proofs.coefficients.put_constant.Given as goal
-
-abbrev pub invariant-loop-place : goal.invariant-loop-place
-invariant-loop-place l = Filled (λ k. residue q (if k == 0 then pos l.z else pos 0)) l.initial.a l.place l.a

@@ -1,9 +1,0 @@
-use Rattle.std.proofs.Common.{pos, ◌*ℤ◌}
-use Rattle.negacyclic.specs.Residues.{residue}
-use Rattle.negacyclic.specs.Ring.{at}
-use Rattle.spiral_sets.specs.Sets.{q}
-use Rattle.negacyclic.proofs.Filled.{Filled}
-use Rattle.ring_poly.proofs.coefficients.scale.Given as goal
-
-abbrev pub invariant-loop-k : goal.invariant-loop-k
-invariant-loop-k l = Filled (λ k. residue q (pos l.z *ℤ at l.a k)) l.initial.out l.k l.out
