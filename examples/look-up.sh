@@ -6,7 +6,7 @@
 set -u
 export LC_ALL=C
 . "$(dirname "$0")/build.bash"
-set_name=tiny-stream most=8 length=1024 # a database of this set has at most 8 records of at most 1024 bytes
+set_name=spiral-2048 most=512 length=8192 # a database of this set has at most 512 records of at most 8192 bytes
 workers=2
 build_program
 

@@ -16,7 +16,7 @@ expect "records of no byte" 13 "bad records: code 8, length 0, number 1024" prep
 expect "no record" 0 "database edge-256 0 records of 4 bytes" prepare edge-256 4 empty none
 is "the frame of no record" "${front}100000000000000000000000000000000400000000000000" "$(hex none)"
 expect "a set that isn't known" 3 "unknown set" prepare nosuch 4 eight no
-expect "a set that isn't handled" 3 "unknown set" prepare tiny-spiral 4 eight no
+expect "a set that isn't handled" 3 "unknown set" prepare tiny-pack 4 eight no
 expect "a length past its range" 2 "usage" prepare edge-256 4294967296 eight no
 expect "a length with a leading zero" 2 "usage" prepare edge-256 04 eight no
 expect "no input" 7 "file fault" prepare edge-256 4 missing no; absent "no input" no
@@ -96,6 +96,59 @@ for k in 0 291 511; do
   expect "record $k of 512" 0 "record 15360 bytes" open all_state all_reply record_k; same "record $k of 512" record_k wanted_k
 done
 
+# ---- look-ups on tiny-spiral, whose query is one ciphertext that the server expands with the keys in SETUP
+
+for ((k = 0; k < 16; k++)); do head -c 256 /dev/zero | tr '\0' "\\$(printf %03o $k)"; done > sixteen
+expect "sixteen records" 0 "database tiny-spiral 16 records of 256 bytes" prepare tiny-spiral 256 sixteen keys_db
+expect "a query to expand" 0 "query tiny-spiral setup 1655834 bytes query 3610 bytes" ask tiny-spiral 15 seed:seed keys_state keys keys_query
+for workers in 1 2 3 64; do
+  expect "an expanded query by $workers workers" 0 "reply tiny-spiral 1834 bytes" answer keys_db keys keys_query "keys_reply$workers" "$workers"
+  same "the same reply to it by $workers workers" "keys_reply$workers" keys_reply1
+done
+tail -c 256 sixteen > wanted_15
+expect "the last of sixteen" 0 "record 256 bytes" open keys_state keys_reply1 record_15; same "the last of sixteen" record_15 wanted_15
+expect "a query for the first" 0 "query tiny-spiral setup 1655834 bytes query 3610 bytes" ask tiny-spiral 0 seed:seed other_state first_keys first_query
+same "the keys depend on no index" first_keys keys
+expect "an index past the last" 4 "index 16 is not below 16" ask tiny-spiral 16 seed:seed no no no
+head -c 2048 sixteen > eight_of_16
+expect "half of them" 0 "database tiny-spiral 8 records of 256 bytes" prepare tiny-spiral 256 eight_of_16 half_db
+expect "a query for the ninth" 0 "query tiny-spiral setup 1655834 bytes query 3610 bytes" ask tiny-spiral 8 seed:seed other_state other_keys ninth_query
+expect "an answer for the ninth" 0 "reply tiny-spiral 1834 bytes" answer half_db other_keys ninth_query other_reply 1
+expect "the ninth of eight" 11 "absent: index 8, count 8" open other_state other_reply no
+# Secrets of all -1, no errors, and one number everywhere.
+head -c 2764800 /dev/zero | tr '\0' '\377' > ones
+expect "a query of greatest words" 0 "query tiny-spiral setup 1655834 bytes query 3610 bytes" ask tiny-spiral 15 words:ones other_state other_keys other_query
+expect "its answer" 0 "reply tiny-spiral 1834 bytes" answer keys_db other_keys other_query other_reply 2
+expect "its record" 0 "record 256 bytes" open other_state other_reply record_15; same "its record" record_15 wanted_15
+absent "an index past the last" no
+
+# ---- a look-up on spiral-2048: one of 512 records
+
+for ((k = 0; k < 512; k++)); do head -c 8192 /dev/zero | tr '\0' "\\$(printf %03o $((k % 256)))"; done > long_records
+expect "512 long records" 0 "database spiral-2048 512 records of 8192 bytes" prepare spiral-2048 8192 long_records long_db
+expect "a query for one of them" 0 "query spiral-2048 setup 7225370 bytes query 28698 bytes" ask spiral-2048 300 seed:seed long_state long_keys long_query
+expect "its answer" 0 "reply spiral-2048 22570 bytes" answer long_db long_keys long_query long_reply 2
+head -c 8192 /dev/zero | tr '\0' '\054' > wanted_300
+expect "record 300" 0 "record 8192 bytes" open long_state long_reply record_300; same "record 300" record_300 wanted_300
+
+# ---- what `answer` refuses of SETUP
+
+head -c 1655833 keys > cut_keys; { cat keys; printf '\0'; } > longer_keys
+{ head -c 40 keys; bytes 0100df1e20f1ed; tail -c +48 keys; } > keys_at_q; { head -c 40 keys; bytes 0000df1e20f1ed; tail -c +48 keys; } > keys_below_q
+expect "no keys" 9 "" answer keys_db empty keys_query no 1
+expect "keys of another set" 10 "wrong set: expected tiny-spiral, found spiral-2048" answer keys_db long_keys keys_query no 1
+expect "keys and a query of other sets" 10 "wrong set: expected tiny-spiral, found spiral-2048" answer keys_db long_keys query no 1
+expect "a query of another set than the keys" 10 "wrong set: expected tiny-spiral, found spiral-2048" answer keys_db keys long_query no 1
+expect "keys without their last byte" 9 "" answer keys_db cut_keys keys_query no 1
+expect "a byte after the keys" 9 "" answer keys_db longer_keys keys_query no 1
+expect "a residue of the keys that is q" 9 "" answer keys_db keys_at_q keys_query no 1
+expect "a query in the place of the keys" 9 "" answer keys_db keys_query keys_query no 1
+expect "keys where the set has none" 9 "" answer steps_db keys query no 1
+expect "keys that aren't there" 7 "file fault" answer keys_db missing keys_query no 1
+expect "bad keys before a query that isn't there" 9 "" answer keys_db cut_keys missing no 1
+absent "refused keys" no
+expect "a residue below q" 0 "reply tiny-spiral 1834 bytes" answer keys_db keys_below_q keys_query other_reply 1
+
 # ---- what `answer` refuses, each before REPLY is made
 
 # refused NAME HEX CODE PLACE: a database of these bytes.
@@ -115,7 +168,7 @@ refused "another version" 5350495203 3 4
 refused "another kind" 535049520107 4 5
 refused "a state" "$(head -c 31 state > cut; hex cut)" 4 5
 refused "a set without a name" 53504952010600 5 7
-refused "a set that isn't handled" 5350495201060b74696e792d73706972616c 5 7
+refused "a set that isn't handled" 5350495201060974696e792d7061636b 5 7
 absent "refused databases" no
 (ulimit -v 200000; refused "a body of 2^64 - 1 bytes takes no memory" "${front}ffffffffffffffff$n1$n4" 10 15; [ "$failed" = 0 ]) && passed=$((passed + 1)) || failed=$((failed + 1))
 expect "a setup of one byte" 9 "" answer steps_db seven query no 1

@@ -9,12 +9,12 @@ if [ ! -r "$replay" ] || [ ! -r "$cases" ]; then
   exit 0
 fi
 status=0
-# Two cases want the line of a refused query, reply or state, which comes with the decoder.
-grep -v $'^o25[56]\t' "$cases" > cases_so_far
-for set in edge-256 tiny-stream stream-2048; do
-  ONLY="3 4 11" BUILT="prepare ask answer open noise" "$replay" "$program" "$PWD/cases_so_far" "$set" || status=1
+# Six cases want the line of a refused query, reply or state, which comes with the decoder.
+grep -vE $'^o(219|220|255|256|290|291)\t' "$cases" > cases_so_far
+for set in edge-256 tiny-stream stream-2048 tiny-spiral spiral-2048 big-2048; do
+  ONLY="3 4 6 11" BUILT="prepare ask answer open noise" "$replay" "$program" "$PWD/cases_so_far" "$set" || status=1
 done
-for set in edge-256 tiny-stream; do
+for set in edge-256 tiny-stream tiny-spiral; do
   ONLY=9 BUILT=noise "$replay" "$program" "$cases" "$set" || status=1
 done
 exit $status

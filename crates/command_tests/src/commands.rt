@@ -11,7 +11,7 @@ use std::thread::Threads;
 use tool_run::run;
 
 /// Runs the program on these words.
-fn status_of<R: Threads + Sync>(
+pub(crate) fn status_of<R: Threads + Sync>(
     rt: &R,
     alloc: Global,
     words: &[&str],
@@ -26,7 +26,7 @@ fn status_of<R: Threads + Sync>(
     Ok(run(rt, alloc, &args, files, &mut net, &OpenGate, sink))
 }
 
-fn expect_bytes(rt: &impl Abort, bytes: Option<&[u8]>, want: &[u8], name: &str) {
+pub(crate) fn expect_bytes(rt: &impl Abort, bytes: Option<&[u8]>, want: &[u8], name: &str) {
     let bytes = bytes.expect(rt, "bytes");
     assert!(rt; bytes == want, "{name}");
 }

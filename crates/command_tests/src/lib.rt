@@ -7,6 +7,8 @@ mod client;
 #[cfg(test)]
 mod commands;
 #[cfg(test)]
+mod expanding;
+#[cfg(test)]
 mod frames;
 #[cfg(test)]
 mod names;

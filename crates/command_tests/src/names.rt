@@ -6,16 +6,16 @@ use std::test::Fail;
 
 /// The names, in the order of the ids, how many bytes each set's records have at most, and whether the set is handled.
 const NAMES: [(&str, u64, bool); 10] = [
-    ("tiny-spiral", 256, false),
+    ("tiny-spiral", 256, true),
     ("tiny-pack", 256, false),
     ("tiny-stream", 1024, true),
     ("tiny-streampack", 1024, false),
     ("edge-256", 1024, true),
-    ("spiral-2048", 8192, false),
+    ("spiral-2048", 8192, true),
     ("pack-2048", 32768, false),
     ("stream-2048", 15360, true),
     ("streampack-2048", 49152, false),
-    ("big-2048", 8192, false),
+    ("big-2048", 8192, true),
 ];
 
 #[test]

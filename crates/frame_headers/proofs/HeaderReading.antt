@@ -1,8 +1,9 @@
 -- Reading a header check by check, and the set of a name.
-use Rattle.std.proofs.Common.{◌≡◌, ℕ, ◌+◌, ◌-◌, ◌/◌, ◌^◌, ◌<◌, ◌≤◌, Bool, true, false, ◌&&◌, not, List, [], ◌∷◌, length, get_or, take, drop, Some, None, refl, ap, sym, ◌∙◌, arith, lt-ltb, le-ltb, eq-eqb, ne_eqb, ◌≢◌, zero, suc, length-take, w64}
+use Rattle.std.proofs.Common.{◌≡◌, ℕ, ◌+◌, ◌-◌, ◌/◌, ◌^◌, ◌<◌, ◌≤◌, Bool, true, false, not, List, [], ◌∷◌, length, get_or, take, drop, if◌then◌else◌, Some, None, refl, ap, sym, ◌∙◌, arith, lt-ltb, le-ltb, eq-eqb, ne_eqb, ◌≢◌, zero, suc, length-take, w64}
 use Rattle.std.specs.Prelude.{slice_get, nat_eq}
 use Rattle.std.specs.List.{AllByRecursion, range_with_len}
 use Rattle.std.specs.Int.{from_le_bytes}
+use Rattle.std.proofs.lemmas.Bool.{true≢false}
 use Rattle.std.proofs.lemmas.List.{get_or-map, length-drop}
 use Rattle.std.proofs.lemmas.List.FromFn.{get_or-range_with_len}
 use Rattle.std.proofs.lemmas.Option.{get_or_from_slice_get}
@@ -120,16 +121,20 @@ pub named : (name : List ℕ) (set : ParamSet) → IsSet set → pointwise nat_e
 named name set is same = ap set_of ((bytes_eq-Decides name (name_of set)).0 same) ∙ set_of_name set is
 
 -- a set that is not handled
-not_both : (direct pack : Bool) → ((direct ≡ true) × (pack ≡ false) → ⊥) → (direct && not pack) ≡ false
-not_both true true h = refl
-not_both true false h = absurd (h (refl, refl))
-not_both false pack h = refl
+none_where : (pack : Bool) (set : ParamSet) → (pack ≡ false → ⊥) → (if pack then None else Some set) ≡ None
+none_where true set h = refl
+none_where false set h = absurd (h refl)
 
 pub handled_not : (set : ParamSet) → (IsBuilt set → ⊥) → if_handled (Some set) ≡ None
-handled_not set h = rw (not_both set.direct set.pack h) refl
+handled_not set h = none_where set.pack set h
+
+-- and one that is
+some_where : (pack : Bool) (set : ParamSet) → pack ≡ false → (if pack then None else Some set) ≡ Some set
+some_where true set h = absurd (true≢false h)
+some_where false set h = refl
 
 pub handled : (set : ParamSet) → IsBuilt set → if_handled (Some set) ≡ Some set
-handled set h = rw (h.0, h.1) refl
+handled set h = some_where set.pack set h
 
 pub set_in_is : (bytes : List ℕ) → set_in bytes ≡ if_handled (set_of (take (7 + get_or bytes 6 0 - 7) (drop 7 bytes)))
 unfolding set_in

@@ -1,5 +1,5 @@
 -- What it says that checks pass, fail, or reach the input's end.
-use Rattle.std.proofs.Common.{◌≡◌, ℕ, ◌/◌, ◌^◌, ◌<◌, ◌≤◌, ◌⊎◌, inl, inr, Bool, true, false, ◌&&◌, not, List, [], ◌∷◌, ◌++◌, get_or, Option, Some, None, refl, ap, sym, subst, ◌∙◌, arith, lt-ltb, ltb-true, zero, suc}
+use Rattle.std.proofs.Common.{◌≡◌, ℕ, ◌/◌, ◌^◌, ◌<◌, ◌≤◌, ◌⊎◌, inl, inr, Bool, true, false, List, [], ◌∷◌, ◌++◌, get_or, Option, Some, None, refl, ap, sym, subst, ◌∙◌, arith, lt-ltb, ltb-true, zero, suc}
 use Rattle.std.specs.Prelude.{slice_get, nat_eq, nat_lt, if◌then◌else◌}
 use Rattle.std.proofs.lemmas.Bool.{cases_lt}
 use Rattle.std.proofs.lemmas.Option.{get_or_from_slice_get, slice_get_within}
@@ -171,15 +171,13 @@ is_named name set h =
       name_is = at.same ∙ ap (λ (k : ℕ). get_or names k []) (sym id);
     }
 
-both : (direct pack : Bool) (set other : ParamSet) → (if direct && not pack then Some other else None) ≡ Some set
-    → ((direct ≡ true) × (pack ≡ false)) × (other ≡ set)
-both true true set other h = absurd (cc)
-both true false set other h = let same : other ≡ set = cc in ((refl, refl), same)
-both false pack set other h = absurd (cc)
+both : (pack : Bool) (set other : ParamSet) → (if pack then None else Some other) ≡ Some set → (pack ≡ false) × (other ≡ set)
+both true set other h = absurd (cc)
+both false set other h = let same : other ≡ set = cc in (refl, same)
 
 handled_is : (named : Option ParamSet) (set : ParamSet) → if_handled named ≡ Some set → (named ≡ Some set) × IsBuilt set
 handled_is (Some other) set h =
-    let each = both other.direct other.pack set other h in
+    let each = both other.pack set other h in
     (ap (λ (t : ParamSet). Some t) each.1, subst (λ (t : ParamSet). IsBuilt t) each.1 each.0)
 handled_is None set h = absurd (cc)
 

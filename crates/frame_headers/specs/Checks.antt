@@ -1,6 +1,6 @@
 -- How bytes are read as the header of a frame, or refused. Checks stand in the order in which the bytes come that decide them,
 -- and the first one that fails gives the refusal.
-use Rattle.std.specs.Prelude.{ℕ, Bool, true, false, List, [], ◌∷◌, ◌+◌, ◌/◌, ◌%◌, ◌^◌, ◌&&◌, not, length, take, drop, slice_index, nat_lt, nat_eq, if◌then◌else◌, Option, Some, None}
+use Rattle.std.specs.Prelude.{ℕ, Bool, true, false, List, [], ◌∷◌, ◌+◌, ◌/◌, ◌%◌, ◌^◌, not, length, take, drop, slice_index, nat_lt, nat_eq, if◌then◌else◌, Option, Some, None}
 use Rattle.negacyclic.specs.Digits.{number_of}
 use Rattle.spiral_sets.specs.declared.param_set.ParamSet.{ParamSet}
 use Rattle.frame_headers.specs.declared.frame_error.FrameError.{FrameError}
@@ -53,7 +53,7 @@ header_len_in bytes = 15 + name_len_in bytes
 
 -- the set of a name, where this program handles it
 abbrev pub if_handled : Option ParamSet → Option ParamSet
-if_handled (Some set) = if set.direct && not set.pack then Some set else None
+if_handled (Some set) = if set.pack then None else Some set
 if_handled None = None
 
 unfoldable pub set_in : List ℕ → Option ParamSet

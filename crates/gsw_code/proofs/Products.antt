@@ -1,9 +1,9 @@
 -- Products with a GSW ciphertext, one row of the other factor after the other.
-use Rattle.std.proofs.Common.{◌≡◌, ℕ, ◌+◌, ◌*◌, ◌<◌, ◌≤◌, [], length, take, drop, replicate, map, sym, ◌∙◌, ap, arith}
+use Rattle.std.proofs.Common.{◌≡◌, ℕ, ◌+◌, ◌*◌, ◌<◌, ◌≤◌, List, [], length, take, drop, replicate, map, All, sym, ◌∙◌, ap, subst, arith}
 use Rattle.std.specs.List.{range_with_len}
 use Rattle.std.proofs.lemmas.Int.{ints}
 use Rattle.std.proofs.lemmas.List.{length-replicate, get_or-replicate, get_or-take, get_or-drop}
-use Rattle.std.proofs.lemmas.List.Elements.{All-same, All-map, All-replicate}
+use Rattle.std.proofs.lemmas.List.Elements.{All-same, All-map, All-replicate, All-weaker}
 use Rattle.std.proofs.lemmas.List.FromFn.{fill_by_all, length-map-range_with_len}
 use Rattle.negacyclic.specs.Ring.{ring_add, ring_sub, ring_mul, ring_total}
 use Rattle.negacyclic.specs.Digits.{digit_poly}
@@ -17,6 +17,14 @@ use Rattle.spiral_sets.specs.Sets.{q, digit_count, rows}
 use Rattle.spiral_model.specs.Words.{Poly, Cipher, Gsw, row_of, cipher_at}
 use Rattle.spiral_model.specs.Gadgets.{cipher_add, cipher_sub, digit_sum, external_product, selected}
 use Rattle.regev_code.specs.Products.{HasShape}
+
+-- ---- shapes
+
+-- Ciphertexts of one shape have rows of its degree.
+pub shapes_degrees : (N degree count : ℕ) (ciphers : List Cipher) → N ≡ degree → All (HasShape degree count) ciphers → All (λ c. All (λ a. length a ≡ N) c) ciphers
+shapes_degrees N degree count ciphers same shapes =
+    subst (λ (n : ℕ). All (λ c. All (λ a. length a ≡ n) c) ciphers) (sym same)
+    (All-weaker (HasShape degree count) (λ c. All (λ a. length a ≡ degree) c) (λ c is. is.degree) ciphers shapes)
 
 -- ---- the columns of one row
 

@@ -2,13 +2,12 @@ ghost use Rattle.std.specs.Prelude.{◌≡◌, ◌+◌, ◌*◌, ◌<◌, ◌≤
 ghost use Rattle.spiral_sets.specs.Sets.{IsSet, digit_count as digit_count_of, rows};
 ghost use Rattle.spiral_sets.specs.Counts.{gsw_count};
 ghost use Rattle.spiral_model.specs.Words.{cipher_at};
-ghost use Rattle.spiral_model.specs.Ciphertexts.{IsCipher};
 ghost use Rattle.regev_code.specs.Products.{HasShape};
 ghost use Rattle.gsw_code.specs.Products.{IsGsw};
 
 use gadget_digits::digit_count;
 use no_memory::NoMemory;
-use regev_code::{Cipher, CipherT, to_form};
+use regev_code::{Cipher, CipherT, forms_of};
 use ring_poly::Ring;
 use spiral_sets::ParamSet;
 use std::alloc::Global;
@@ -52,27 +51,6 @@ impl Drop for Ready {
     }
 }
 
-/// Ciphertexts of a set in product form, one by one.
-pub fn forms_of(
-    alloc: Global,
-    ring: &Ring,
-    set: &ParamSet,
-    columns: &[Cipher],
-) -> Result<Vec<CipherT>, NoMemory>
-    requires known { IsSet set.now }
-    requires ring { ring.now ≡ set.now.degree }
-    requires shapes { All (IsCipher set.now.degree (rows set.now)) columns.now }
-    ensures { IfOk result (λ forms. forms.items ≡ columns.now) }
-{
-    let mut forms = Vec::new(alloc);
-    for column in columns {
-        let mut form = CipherT::zero(alloc, set, set.rows())?;
-        to_form(ring, column, &mut form);
-        forms.push(form)?;
-    }
-    Ok(forms)
-}
-
 impl Gsw {
     /// The GSW ciphertext with these columns.
     pub fn from_columns(
@@ -84,12 +62,12 @@ impl Gsw {
         requires known { IsSet set.now }
         requires ring { ring.now ≡ set.now.degree }
         requires count { length columns.now ≡ gsw_count set.now }
-        requires shapes { All (IsCipher set.now.degree (rows set.now)) columns.now }
+        requires shapes { All (HasShape set.now.degree (rows set.now + 1)) columns.now }
         ensures value { IfOk result (λ gsw. gsw ≡ columns.now) }
         ensures shape { IfOk result (λ gsw. IsGsw set.now gsw) }
     {
         Ok(Gsw {
-            columns: forms_of(alloc, ring, set, columns)?,
+            columns: forms_of(alloc, ring, columns)?,
         })
     }
 

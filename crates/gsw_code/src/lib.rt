@@ -8,5 +8,5 @@ mod messages;
 mod product;
 
 pub use encrypt::encrypt_bit;
-pub use gsw::{Gsw, Ready, forms_of};
+pub use gsw::{Gsw, Ready};
 pub use intended::{column_message_into, first_message_into, first_value, power_of, selection};

@@ -1,5 +1,5 @@
 -- A report fits exactly where its rows do in the model's words, and the least row that misses.
-use Rattle.std.proofs.Common.{◌≡◌, ℕ, ◌<◌, ◌≤◌, ◌↔◌, Option, Some, None, MatchOption, List, length, get_or, take, All, sym, ◌∙◌, ap, subst, arith, le_refl, take_all, inl, inr}
+use Rattle.std.proofs.Common.{◌≡◌, ℕ, ◌<◌, ◌≤◌, ◌↔◌, Option, MatchOption, List, length, get_or, take, All, sym, ◌∙◌, ap, subst, arith, le_refl, take_all, inl, inr}
 use Rattle.std.proofs.lemmas.Bool.{cases_lt}
 use Rattle.std.proofs.lemmas.List.{get_or-take, length-take-le}
 use Rattle.std.proofs.lemmas.List.Elements.{All-get_or, All-from_get_or}

@@ -1,5 +1,5 @@
 -- The rows of a report, and the weights of their secrets.
-use Rattle.std.proofs.Common.{◌≡◌, ℕ, ◌+◌, ◌<◌, ◌≤◌, ℤ, pos, Bool, false, not, nat_eq, unsigned_abs, if◌then◌else◌, List, [], ◌∷◌, length, get_or, take, map, Option, Some, None, refl, sym, ◌∙◌, ap, ap₂, lt-ltb, le-ltb}
+use Rattle.std.proofs.Common.{◌≡◌, ℕ, ◌+◌, ◌<◌, ◌≤◌, ℤ, pos, Bool, false, not, nat_eq, unsigned_abs, if◌then◌else◌, List, [], ◌∷◌, length, get_or, take, map, Some, None, refl, sym, ◌∙◌, ap, ap₂, lt-ltb, le-ltb}
 use Rattle.std.specs.List.{range_with_len}
 use Rattle.std.proofs.lemmas.List.Sums.{sum_by_more}
 use Rattle.std.proofs.lemmas.List.FromFn.{length-map-range_with_len}

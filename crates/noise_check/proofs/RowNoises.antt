@@ -1,9 +1,12 @@
 -- The noise of ciphertexts in the row that is measured, as the code works it out, and the sums of its norms.
 use Rattle.std.proofs.Common.{◌≡◌, ℕ, ◌+◌, ◌-◌, ◌*◌, ◌/◌, ◌^◌, ◌<◌, ◌≤◌, ◌==◌, if◌then◌else◌, Bool, false, pos, List, [], length, get_or, replicate, sym, ◌∙◌, ap, subst, arith}
+use Rattle.std.proofs.lemmas.Int.{ints}
 use Rattle.std.proofs.lemmas.List.FromFn.{get_or-map-range_with_len}
 use Rattle.negacyclic.specs.Residues.{norm}
-use Rattle.negacyclic.specs.Ring.{ring_add, ring_sub, ring_mul}
-use Rattle.negacyclic.proofs.Lengths.{product_from_zeros}
+use Rattle.negacyclic.specs.Ring.{ring_zero, ring_add, ring_sub, ring_mul}
+use Rattle.negacyclic.proofs.Stands.{follows_at, stands_same, stands_zero, add_of, sub_of}
+use Rattle.negacyclic.proofs.Ring.{ring_add_comm, ring_mul_comm, ring_mul_zero, ring_sub_mul}
+use Rattle.negacyclic.proofs.Lengths.{length-ring_sub, zeros_ring, product_from_zeros}
 use Rattle.spiral_sets.specs.declared.param_set.ParamSet.{ParamSet}
 use Rattle.spiral_sets.specs.Sets.{q, delta, digit_count, rows}
 use Rattle.ring_poly.proofs.Modulus.{q_some}
@@ -14,17 +17,37 @@ use Rattle.spiral_model.specs.Noise.{noise, noise_norm, polys_of, place_noise, r
 use Rattle.regev_code.specs.Seen.{Secrets}
 use Rattle.regev_code.specs.Shapes.{OfDegree, polynomial_of, under}
 use Rattle.regev_code.proofs.Rows.{under_at, under-length}
-use Rattle.noise_check.specs.Rooms.{MeasuredRow, IsWorkspace, IsRowOf}
+use Rattle.noise_check.specs.Rooms.{MeasuredRow, opposite, IsWorkspace, IsRowOf}
 
 -- ---- one ciphertext
 
--- what the phase has beyond the message, in the steps of the code
-pub beyond_worked : (N L M P row : ℕ) (secret cleared product masked body between left message : Poly) (column : Cipher) → L ≡ N → M ≡ N → P ≡ N
-    → cleared ≡ replicate {A = ℕ} L 0 → product ≡ ring_add q N cleared (ring_mul q N secret (row_of column 0)) → masked ≡ product → body ≡ row_of column row
-    → between ≡ ring_sub q M body masked → left ≡ ring_sub q P between message → left ≡ ring_sub q N (phase N secret column row) message
+-- to add -m is to take m away
+added_opposite : (N : ℕ) (a m : Poly) → ring_add q N a (ring_sub q N (ring_zero q N) m) ≡ ring_sub q N a m
+added_opposite N a m =
+    stands_same (add_of q_some (follows_at q N a) (sub_of q_some (stands_zero {q = q} {N = N} q_some).follows (follows_at q N m)).follows)
+    (sub_of q_some (follows_at q N a) (follows_at q N m)) (λ k h. omega (arith, ints))
+
+-- the product with -s is that with s, taken from 0
+opposite_product : (N : ℕ) (secret a : Poly) → ring_mul q N (opposite N secret) a ≡ ring_sub q N (ring_zero q N) (ring_mul q N secret a)
+opposite_product N secret a =
+    let none : ring_mul q N (ring_zero q N) a ≡ ring_zero q N = ring_mul_comm q N (ring_zero q N) a ∙ ring_mul_zero q N q_some a in
+    ring_sub_mul q N q_some (ring_zero q N) secret a ∙ ap (λ (x : Poly). ring_sub q N x (ring_mul q N secret a)) none
+
+-- The phase c_i - s c_0 is c_i + (-s) c_0.
+pub phase_by_opposite : (N row : ℕ) (secret : Poly) (column : Cipher)
+    → ring_add q N (row_of column row) (ring_mul q N (opposite N secret) (row_of column 0)) ≡ phase N secret column row
 unfolding phase
-beyond_worked N L M P row secret cleared product masked body between left message column el em ep none summed copied body_is subtracted rest =
-    let alone = product_from_zeros q N secret (row_of column 0) q_some in
+phase_by_opposite N row secret column =
+    ap (ring_add q N (row_of column row)) (opposite_product N secret (row_of column 0)) ∙ added_opposite N (row_of column row) (ring_mul q N secret (row_of column 0))
+
+-- what the phase has beyond the message, in the steps of the code
+pub beyond_worked : (N L M P row : ℕ) (opposed cleared product form phased left message : Poly) (column : Cipher) → L ≡ N → M ≡ N → P ≡ N
+    → cleared ≡ replicate {A = ℕ} L 0 → product ≡ ring_add q N cleared (ring_mul q N opposed (row_of column 0)) → form ≡ ring_add q M product (row_of column row)
+    → phased ≡ form → left ≡ ring_sub q P phased message
+    → left ≡ ring_sub q N (ring_add q N (row_of column row) (ring_mul q N opposed (row_of column 0))) message
+beyond_worked N L M P row opposed cleared product form phased left message column el em ep none summed added copied rest =
+    let alone = product_from_zeros q N opposed (row_of column 0) q_some in
+    let turned = ring_add_comm q N (ring_mul q N opposed (row_of column 0)) (row_of column row) in
     let zeros : cleared ≡ replicate {A = ℕ} N 0 = none ∙ ap (λ (n : ℕ). replicate {A = ℕ} n 0) el in
     cc
 
@@ -46,13 +69,16 @@ unfolding gsw_messages
 column_message_at set secrets bit r k row within =
     get_or-map-range_with_len (column_message set.degree secrets (bit * 2 ^ (set.w_gsw * k)) r) 1 (rows set) row (row + 1) [] within (omega arith)
 
--- the norm of the noise, where the code has the row's secret and its message
-pub norm_is : (N D row result : ℕ) (secrets : List Poly) (secret message : Poly) (column : Cipher) (messages : List Poly) → D ≡ N → secret ≡ poly_of secrets row → message ≡ poly_of messages row
-    → result ≡ norm q (ring_sub q D (phase D secret column (row + 1)) message) → result ≡ noise_norm N secrets column messages row
+-- the norm of the noise, where the code has the opposite of the row's secret, and its message
+pub norm_is : (N D row result : ℕ) (secrets : List Poly) (opposed message : Poly) (column : Cipher) (messages : List Poly) → D ≡ N → opposed ≡ opposite N (poly_of secrets row)
+    → message ≡ poly_of messages row
+    → result ≡ norm q (ring_sub q D (ring_add q D (row_of column (row + 1)) (ring_mul q D opposed (row_of column 0))) message) → result ≡ noise_norm N secrets column messages row
 unfolding noise_norm noise
-norm_is N D row result secrets secret message column messages degree key written worked =
-    worked ∙ ap (λ (n : ℕ). norm q (ring_sub q n (phase n secret column (row + 1)) message)) degree
-    ∙ ap (λ (s : Poly). norm q (ring_sub q N (phase N s column (row + 1)) message)) key
+norm_is N D row result secrets opposed message column messages degree key written worked =
+    let P : ℕ → Poly → Poly = λ n s. ring_add q n (row_of column (row + 1)) (ring_mul q n s (row_of column 0)) in
+    worked ∙ ap (λ (n : ℕ). norm q (ring_sub q n (P n opposed) message)) degree
+    ∙ ap (λ (s : Poly). norm q (ring_sub q N (P N s) message)) key
+    ∙ ap (λ (a : Poly). norm q (ring_sub q N a message)) (phase_by_opposite N (row + 1) (poly_of secrets row) column)
     ∙ ap (λ (m : Poly). norm q (ring_sub q N (phase N (poly_of secrets row) column (row + 1)) m)) written
 
 -- ---- the row that is measured
@@ -65,9 +91,10 @@ row_within set ring measured is =
     omega arith
 
 -- its secret is the row's among all
-pub row_secret : (set : ParamSet) (ring : ℕ) (measured : MeasuredRow) (secret : Poly) → IsRowOf set ring measured → secret ≡ poly_of (under measured.degree measured.secrets false) measured.row
-    → secret ≡ poly_of (polys_of set measured.secrets.rows) measured.row
-row_secret set ring measured secret is key = key ∙ ap (λ (n : ℕ). poly_of (under n measured.secrets false) measured.row) is.degree
+pub row_opposite : (set : ParamSet) (ring : ℕ) (measured : MeasuredRow) (opposed : Poly) → IsRowOf set ring measured
+    → opposed ≡ opposite measured.degree (poly_of (under measured.degree measured.secrets false) measured.row)
+    → opposed ≡ opposite set.degree (poly_of (polys_of set measured.secrets.rows) measured.row)
+row_opposite set ring measured opposed is key = key ∙ ap (λ (n : ℕ). opposite n (poly_of (under n measured.secrets false) measured.row)) is.degree
 
 -- what it encrypts in a column of a GSW ciphertext
 pub column_message_is : (set : ParamSet) (ring : ℕ) (measured : MeasuredRow) (bit power r k : ℕ) (message : Poly) → IsRowOf set ring measured → power ≡ bit * 2 ^ (set.w_gsw * k)
@@ -87,30 +114,35 @@ first_message_is set ring measured index u r message is worked = worked ∙ sym 
 
 -- ---- the room
 
--- the secret of a row as the code reads it
+-- the secret of a row, as the code reads it, has N coefficients
 pub key_degree : (N : ℕ) (secrets : Secrets) (row : ℕ) (key : Poly) → OfDegree N secrets → row < length secrets.rows → key ≡ polynomial_of (get_or secrets.rows row []) → length key ≡ N
 key_degree N secrets row key is within read = under-length N secrets false row key is within read
 
-pub key_is : (N : ℕ) (secrets : Secrets) (row : ℕ) (key : Poly) → OfDegree N secrets → row < length secrets.rows → key ≡ polynomial_of (get_or secrets.rows row [])
-    → key ≡ poly_of (under (length key) secrets false) row
-key_is N secrets row key is within read =
-    under_at N secrets false row key is within read ∙ ap (λ (n : ℕ). poly_of (under n secrets false) row) (sym (key_degree N secrets row key is within read))
+-- its opposite, as the code works it out
+pub opposite_worked : (N L M : ℕ) (secret cleared room : Poly) → L ≡ N → M ≡ N → cleared ≡ replicate {A = ℕ} L 0 → room ≡ ring_sub q M cleared secret → room ≡ opposite N secret
+opposite_worked N L M secret cleared room el em none worked =
+    let zeros : cleared ≡ ring_zero q N = none ∙ ap (λ (n : ℕ). replicate {A = ℕ} n 0) el ∙ zeros_ring q N q_some in
+    worked ∙ ap (λ (n : ℕ). ring_sub q n cleared secret) em ∙ ap (λ (a : Poly). ring_sub q N a secret) zeros
+
+-- it has N coefficients
+pub opposite_degree : (N : ℕ) (secret opposed : Poly) → opposed ≡ opposite N secret → length opposed ≡ N
+opposite_degree N secret opposed is = ap length is ∙ length-ring_sub q N (ring_zero q N) secret
 
 -- room for a row of secrets of that degree, of polynomials of that degree
-pub room_of : (N : ℕ) (secrets : Secrets) (row : ℕ) (key secret product masked phase message : Poly) → OfDegree N secrets → row < length secrets.rows → row < 2 ^ 31
-    → key ≡ polynomial_of (get_or secrets.rows row []) → secret ≡ key → length product ≡ N → length masked ≡ N → length phase ≡ N → length message ≡ N
-    → IsWorkspace (record { degree = length secret; secrets = secrets; row = row }) secret product masked phase message
-room_of N secrets row key secret product masked phase message is within few read same p m h w =
-    let size : length secret ≡ N = ap length same ∙ key_degree N secrets row key is within read in
+pub room_of : (N : ℕ) (secrets : Secrets) (row : ℕ) (key opposed form phase message : Poly) → OfDegree N secrets → row < length secrets.rows → row < 2 ^ 31
+    → key ≡ polynomial_of (get_or secrets.rows row []) → opposed ≡ opposite N key → length form ≡ N → length phase ≡ N → length message ≡ N
+    → IsWorkspace (record { degree = length opposed; secrets = secrets; row = row }) opposed form phase message
+room_of N secrets row key opposed form phase message is within few read turned f h m =
+    let size : length opposed ≡ N = opposite_degree N key opposed turned in
     record {
       degrees = subst (λ (n : ℕ). OfDegree n secrets) (sym size) is;
       within = within;
       few = few;
-      secret_is = key_is N secrets row secret is within (same ∙ read);
-      product_degree = p ∙ sym size;
-      masked_degree = m ∙ sym size;
+      opposite_is = turned ∙ ap (λ (a : Poly). opposite N a) (under_at N secrets false row key is within read)
+          ∙ ap (λ (n : ℕ). opposite n (poly_of (under n secrets false) row)) (sym size);
+      form_degree = f ∙ sym size;
       phase_degree = h ∙ sym size;
-      message_degree = w ∙ sym size;
+      message_degree = m ∙ sym size;
     }
 
 -- ---- the terms of the sums

@@ -1,7 +1,8 @@
 -- The row whose noise is measured, and the room that the measuring takes.
 use Rattle.std.specs.Prelude.{ℕ, ◌≡◌, ◌<◌, ◌^◌, false, length}
 use Rattle.spiral_sets.specs.declared.param_set.ParamSet.{ParamSet}
-use Rattle.spiral_sets.specs.Sets.{IsSet}
+use Rattle.spiral_sets.specs.Sets.{IsSet, q}
+use Rattle.negacyclic.specs.Ring.{ring_zero, ring_sub}
 use Rattle.spiral_model.specs.Words.{Poly, poly_of}
 use Rattle.regev_code.specs.Seen.{Secrets}
 use Rattle.regev_code.specs.Shapes.{OfDegree, under}
@@ -12,16 +13,19 @@ pub record MeasuredRow : Type 0 where
   pub secrets : Secrets
   pub row : ℕ
 
--- what the room keeps: the row's secret, and further polynomials of that degree
-pub record IsWorkspace (measured : MeasuredRow) (secret product masked phase message : Poly) : Type 0 where
+-- -s, for a secret s
+abbrev pub opposite : ℕ → Poly → Poly
+opposite N secret = ring_sub q N (ring_zero q N) secret
+
+-- what the room keeps: the opposite of the row's secret, and further polynomials of that degree
+pub record IsWorkspace (measured : MeasuredRow) (opposed form phase message : Poly) : Type 0 where
   pub degrees : OfDegree measured.degree measured.secrets
   pub within : measured.row < length measured.secrets.rows
   pub few : measured.row < 2 ^ 31
-  pub secret_is : secret ≡ poly_of (under measured.degree measured.secrets false) measured.row
-  pub product_degree : length product ≡ length secret
-  pub masked_degree : length masked ≡ length secret
-  pub phase_degree : length phase ≡ length secret
-  pub message_degree : length message ≡ length secret
+  pub opposite_is : opposed ≡ opposite measured.degree (poly_of (under measured.degree measured.secrets false) measured.row)
+  pub form_degree : length form ≡ length opposed
+  pub phase_degree : length phase ≡ length opposed
+  pub message_degree : length message ≡ length opposed
 
 -- a row of a set that doesn't pack, in the set's ring
 pub record IsRowOf (set : ParamSet) (ring : ℕ) (measured : MeasuredRow) : Type 0 where

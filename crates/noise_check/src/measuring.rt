@@ -1,6 +1,6 @@
-ghost use Rattle.std.specs.Prelude.{◌≡◌, ◌^◌, ◌<◌, ◌≤◌, List, ℕ, [], length, IfOk};
+ghost use Rattle.std.specs.Prelude.{◌≡◌, ◌^◌, ◌<◌, ◌≤◌, List, ℕ, [], false, length, IfOk};
 ghost use Rattle.std.specs.Option.{option_copied};
-ghost use Rattle.spiral_sets.specs.Sets.{IsSet, IsBuilt, q2, rows};
+ghost use Rattle.spiral_sets.specs.Sets.{IsSet, q2, rows};
 ghost use Rattle.spiral_model.specs.KeySwitching.{DigitKey};
 ghost use Rattle.spiral_model.specs.Keys.{lift_keys};
 ghost use Rattle.spiral_model.specs.Noise.{noise_bound as bound_of, report_row, report_of};
@@ -21,7 +21,7 @@ use ring_poly::Ring;
 use spiral_sets::ParamSet;
 use std::alloc::Global;
 
-/// T for the sums F and G of a set without lift keys: p / 2 F + (2^w_gsw - 1) G + p / 2. As p / 2 is at most 2^14 and
+/// T for the sums F and G of a set that doesn't pack, where no lift key is used: p / 2 F + (2^w_gsw - 1) G + p / 2. As p / 2 is at most 2^14 and
 /// 2^w_gsw at most 2^7, it stays below 2^91.
 fn noise_bound(set: &ParamSet, first: u128, gsw: u128) -> u128
     requires known { IsSet set.now }
@@ -56,9 +56,10 @@ fn row_noise(
     }
 }
 
-/// The noise of a query made ready, for the secrets and the index that it was made of, in a set that sends its
-/// ciphertexts and doesn't pack: T, S and the sides of the inequality for each row. Each product of a secret and a
-/// ciphertext is made once. Such a set has no keys, and none are looked at.
+/// The noise of a query made ready, for the secrets and the index that it was made of, in a set that doesn't pack: T, S
+/// and the sides of the inequality for each row. A query that was expanded is measured like one that was sent. Each
+/// product of a secret and a ciphertext is made once. In such a set the keys add no noise behind the query made ready,
+/// and none are looked at.
 pub fn measure(
     alloc: Global,
     ring: &Ring,
@@ -69,7 +70,7 @@ pub fn measure(
     _keys: Option<&EvalKeys>,
 ) -> Result<Report, NoMemory>
     requires known { IsSet set.now }
-    requires built { IsBuilt set.now }
+    requires plain { set.now.pack ≡ false }
     requires ring { ring.now ≡ set.now.degree }
     requires degree { OfDegree ring.now secret.now }
     requires secrets { length (row_secrets_of set.now secret.now) ≡ rows set.now }

@@ -1,15 +1,14 @@
 ghost use Rattle.std.specs.Prelude.{◌≡◌, ◌+◌, ◌*◌, ◌^◌, ◌<◌, ◌≤◌, length, All, IfOk, if◌then◌else◌, slice_index_or, [], not, nat_eq, unsigned_abs};
 ghost use Rattle.negacyclic.specs.Residues.{norm};
-ghost use Rattle.negacyclic.specs.Ring.{ring_sub};
+ghost use Rattle.negacyclic.specs.Ring.{ring_add, ring_sub, ring_mul};
 ghost use Rattle.spiral_sets.specs.Sets.{q, digit_count as digit_count_of, rows};
-ghost use Rattle.spiral_model.specs.Words.{cipher_at};
-ghost use Rattle.spiral_model.specs.Ciphertexts.{phase as phase_of};
+ghost use Rattle.spiral_model.specs.Words.{row_of, cipher_at};
 ghost use Rattle.spiral_model.specs.Queries.{first_messages, gsw_messages};
 ghost use Rattle.spiral_model.specs.Noise.{noise_norm, polys_of, secret_weight};
 ghost use Rattle.regev_code.specs.Shapes.{OfDegree, secret_row};
 ghost use Rattle.regev_code.specs.Products.{HasShape};
 ghost use Rattle.gsw_code.specs.Products.{IsGsw};
-ghost use Rattle.noise_check.specs.Rooms.{IsRowOf};
+ghost use Rattle.noise_check.specs.Rooms.{IsRowOf, opposite as opposite_of};
 
 use gsw_code::{Gsw, column_message_into, first_message_into, power_of};
 use no_memory::NoMemory;
@@ -25,13 +24,11 @@ pub(crate) struct Workspace<'a> {
     secrets: &'a Secret,
     /// the row, counted from 0
     row: u32,
-    /// its secret, in product form
-    secret: PolyT,
-    /// the product of that and row 0 of a ciphertext
-    product: PolyT,
-    /// the same as a polynomial
-    masked: Poly,
-    /// the phase of the ciphertext, then what it has beyond the message
+    /// the opposite of its secret, in product form
+    opposite: PolyT,
+    /// the phase of a ciphertext, in product form
+    form: PolyT,
+    /// the same as a polynomial, then what it has beyond the message
     phase: Poly,
     /// the message
     message: Poly,
@@ -43,9 +40,9 @@ impl<'a> Model for Workspace<'a> {
 
     ghost Value = { MeasuredRow };
 
-    ghost view = { λ w. record { degree = length w.secret; secrets = w.secrets.now; row = w.row } };
+    ghost view = { λ w. record { degree = length w.opposite; secrets = w.secrets.now; row = w.row } };
 
-    ghost invariant = { λ w. IsWorkspace (record { degree = length w.secret; secrets = w.secrets.now; row = w.row }) w.secret w.product w.masked w.phase w.message };
+    ghost invariant = { λ w. IsWorkspace (record { degree = length w.opposite; secrets = w.secrets.now; row = w.row }) w.opposite w.form w.phase w.message };
 }
 
 /// By hand: a caller's proof then takes one step for it, and not one for each of its lists.
@@ -54,47 +51,56 @@ impl Drop for Workspace<'_> {
         let Self {
             secrets: _,
             row: _,
-            secret: _,
-            product: _,
-            masked: _,
+            opposite: _,
+            form: _,
             phase: _,
             message: _,
         } = self;
     }
 }
 
-/// The norm of what a ciphertext's phase has in a row beyond a message, with the row's secret in product form. N is at
-/// most 2048 and each coefficient counts less than 2^55, so it is at most 2^66.
+/// Writes the product form of -s for a secret s, with room for -s.
+fn write_opposite(ring: &Ring, secret: &Poly, room: &mut Poly, out: &mut PolyT)
+    requires secret { length secret.now ≡ ring.now }
+    requires room { length room.old ≡ ring.now }
+    requires out { length out.old ≡ ring.now }
+    ensures value { out.new ≡ opposite_of ring.now secret.now }
+    ensures room { length room.new ≡ ring.now }
+{
+    room.clear();
+    room.sub_assign(secret);
+    ring.to_product(room, out);
+}
+
+/// The norm of what a ciphertext's phase has in a row beyond a message, with the opposite of the row's secret in product
+/// form. The phase c_i - s c_0 is worked out as (-s) c_0 + c_i in that form, so that one polynomial is brought back from
+/// it. N is at most 2048 and each coefficient counts less than 2^55, so the norm is at most 2^66.
 fn norm_beyond(
     ring: &Ring,
-    secret: &PolyT,
+    opposite: &PolyT,
     column: &CipherT,
     row: u32,
     message: &Poly,
-    product: &mut PolyT,
-    masked: &mut Poly,
+    form: &mut PolyT,
     phase: &mut Poly,
 ) -> u128
     requires row { row < length column.now }
     requires degrees { All (λ a. length a ≡ ring.now) column.now }
-    requires secret { length secret.now ≡ ring.now }
+    requires opposite { length opposite.now ≡ ring.now }
     requires message { length message.now ≡ ring.now }
-    requires product { length product.old ≡ ring.now }
-    requires masked { length masked.old ≡ ring.now }
+    requires form { length form.old ≡ ring.now }
     requires phase { length phase.old ≡ ring.now }
-    ensures value { result ≡ norm q (ring_sub q ring.now (phase_of ring.now secret.now column.now row) message.now) }
+    ensures value { result ≡ norm q (ring_sub q ring.now (ring_add q ring.now (row_of column.now row) (ring_mul q ring.now opposite.now (row_of column.now 0))) message.now) }
     ensures size { result ≤ 2 ^ 66 }
-    ensures product { length product.new ≡ ring.now }
-    ensures masked { length masked.new ≡ ring.now }
+    ensures form { length form.new ≡ ring.now }
     ensures phase { length phase.new ≡ ring.now }
 {
     // tells that the degree is one of the two
     let _ = ring.degree();
-    product.clear();
-    ring.mul_add(product, secret, column.row(0));
-    ring.from_product(product, masked);
-    ring.from_product(column.row(row), phase);
-    phase.sub_assign(masked);
+    form.clear();
+    ring.mul_add(form, opposite, column.row(0));
+    form.add_assign(column.row(row));
+    ring.from_product(form, phase);
     phase.sub_assign(message);
     phase.norm1()
 }
@@ -134,15 +140,15 @@ impl<'a> Workspace<'a> {
         ensures { IfOk result (λ room. room ≡ record { degree = ring.now; secrets = secrets.now; row = 0 }) }
     {
         let degree = ring.degree();
-        let mut secret = PolyT::zero(alloc, degree)?;
-        ring.to_product(secrets.poly(false, 0), &mut secret);
+        let mut phase = Poly::zero(alloc, degree)?;
+        let mut opposite = PolyT::zero(alloc, degree)?;
+        write_opposite(ring, secrets.poly(false, 0), &mut phase, &mut opposite);
         Ok(Workspace {
             secrets,
             row: 0,
-            secret,
-            product: PolyT::zero(alloc, degree)?,
-            masked: Poly::zero(alloc, degree)?,
-            phase: Poly::zero(alloc, degree)?,
+            opposite,
+            form: PolyT::zero(alloc, degree)?,
+            phase,
             message: Poly::zero(alloc, degree)?,
         })
     }
@@ -155,7 +161,8 @@ impl<'a> Workspace<'a> {
         ensures { self.new ≡ record self.old { row = row } }
     {
         let secrets = self.secrets;
-        ring.to_product(secrets.poly(false, row as usize), &mut self.secret);
+        let secret = secrets.poly(false, row as usize);
+        write_opposite(ring, secret, &mut self.phase, &mut self.opposite);
         self.row = row;
     }
 
@@ -189,12 +196,11 @@ impl<'a> Workspace<'a> {
         first_message_into(set, index, u, c + 1, row, &mut self.message);
         norm_beyond(
             ring,
-            &self.secret,
+            &self.opposite,
             column,
             row,
             &self.message,
-            &mut self.product,
-            &mut self.masked,
+            &mut self.form,
             &mut self.phase,
         )
     }
@@ -223,12 +229,11 @@ impl<'a> Workspace<'a> {
         column_message_into(ring, secrets, false, power, r, row, &mut self.message);
         norm_beyond(
             ring,
-            &self.secret,
+            &self.opposite,
             gsw.column(set, r, k),
             row,
             &self.message,
-            &mut self.product,
-            &mut self.masked,
+            &mut self.form,
             &mut self.phase,
         )
     }

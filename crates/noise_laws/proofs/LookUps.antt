@@ -1,5 +1,5 @@
 -- State and reply of a look-up: they are of one set, the index is there, and both have the shape that a frame carries.
-use Rattle.std.proofs.Common.{◌≡◌, ℕ, suc, ◌+◌, ◌*◌, ◌/◌, ◌%◌, ◌^◌, ◌<◌, Bool, true, false, ℤ, pos, List, [], ◌∷◌, length, get_or, map, if◌then◌else◌, Option, None, All, refl, sym, ◌∙◌, ap, arith, subst, length-append, pow_pos}
+use Rattle.std.proofs.Common.{◌≡◌, ℕ, suc, ◌+◌, ◌*◌, ◌/◌, ◌%◌, ◌^◌, ◌<◌, Bool, true, false, ℤ, pos, List, [], ◌∷◌, length, get_or, map, if◌then◌else◌, All, refl, sym, ◌∙◌, ap, arith, subst, length-append, pow_pos}
 use Rattle.std.specs.List.{range_with_len, flat_map}
 use Rattle.std.proofs.Math.Nat.{pow-succ'}
 use Rattle.std.proofs.lemmas.Nat.{mod_below, div_below}
@@ -18,7 +18,7 @@ use Rattle.spiral_model.specs.Words.{Poly, Cipher, Gsw, Matrix, row_of, cipher_a
 use Rattle.spiral_model.specs.Databases.{RecordTable, IsTable, record_at, matrices_of}
 use Rattle.spiral_model.specs.Gadgets.{external_product, cipher_add, cipher_sub, selected}
 use Rattle.spiral_model.specs.KeySwitching.{DigitKey}
-use Rattle.spiral_model.specs.Keys.{SetKeys, lift_keys}
+use Rattle.spiral_model.specs.Keys.{lift_keys}
 use Rattle.spiral_model.specs.Packing.{packed_row, packed_column, packed}
 use Rattle.spiral_model.specs.Replies.{open_bytes, IsSwitched, IsReply, IsState, IsTernary, switched, switched_entry, switched_body, switched_zeroth, switched_mask}
 use Rattle.spiral_model.specs.Answering.{Ready, ready_of, first_row, first_product, first_columns_of, first_products, fold_pair, fold_step, folded, result_columns, result_of, reply_of, answer_of}
@@ -259,15 +259,3 @@ reply_kept table words index look_up =
     let ready = ready_of table.set keys (query_of table.set words index) in
     switched_reply table (result_of table (lift_keys keys) ready) look_up.is_table
     (result_kept table (lift_keys keys) ready (dealt_selections table.set words (query_of table.set words index)))
-
--- ---- sets without keys
-
-no_keys : (set : ParamSet) (words : List ℕ) → IsBuilt set → dealt_keys set words ≡ None
-unfolding dealt_keys
-no_keys set words built = rw (built.0, built.1) refl
-
--- In a set without keys it is the answer to the query alone.
-pub plain_reply : (table : RecordTable) (words : List ℕ) (index : ℕ) → IsBuilt table.set
-    → answer_of table None (ready_of table.set None (query_of table.set words index)) ≡ reply_to table words index
-plain_reply table words index built =
-    ap (λ (keys : Option SetKeys). answer_of table keys (ready_of table.set keys (query_of table.set words index))) (sym (no_keys table.set words built))

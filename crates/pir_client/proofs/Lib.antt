@@ -3,5 +3,7 @@ pub mod KeptSecrets
 pub mod MessageLists
 pub mod QueryDraws
 pub mod FirstWords
+pub mod DealtParts
 pub mod QueryShapes
+pub mod QueryNumbers
 pub mod Retrieved

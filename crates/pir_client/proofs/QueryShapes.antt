@@ -1,8 +1,7 @@
 -- The shape of a query's ciphertexts, and what `ask` sends.
-use Rattle.std.proofs.Common.{◌≡◌, ℕ, suc, ◌+◌, ◌-◌, ◌*◌, ◌<◌, ◌≤◌, Bool, true, false, ℤ, List, [], ◌∷◌, Option, None, length, get_or, map, take, if◌then◌else◌, All, refl, sym, ◌∙◌, ap, arith, subst}
+use Rattle.std.proofs.Common.{◌≡◌, ℕ, suc, ◌+◌, ◌-◌, ◌*◌, ◌<◌, ◌≤◌, Bool, true, false, List, [], ◌∷◌, Option, Some, None, length, get_or, take, if◌then◌else◌, All, refl, sym, ◌∙◌, ap, arith, subst}
+use Rattle.std.specs.Prelude.{IfSome}
 use Rattle.std.specs.List.{range_with_len, flat_map}
-use Rattle.std.proofs.lemmas.Bool.{true≢false}
-use Rattle.std.proofs.lemmas.List.{length-map}
 use Rattle.std.proofs.lemmas.List.FromFn.{length-map-range_with_len}
 use Rattle.std.proofs.lemmas.List.Elements.{All-nil, All-cons, All-head, All-tail, All-same}
 use Rattle.negacyclic.specs.Ring.{ring_mul, ring_add}
@@ -10,35 +9,31 @@ use Rattle.negacyclic.proofs.Lengths.{length-ring_add, ring_add-below}
 use Rattle.ring_poly.proofs.Modulus.{q_some}
 use Rattle.spiral_sets.specs.declared.param_set.ParamSet.{ParamSet}
 use Rattle.spiral_sets.specs.Sets.{IsSet, IsBuilt, q, places, rows, has_keys}
-use Rattle.spiral_sets.specs.Counts.{firsts_count, words_needed, secret_words}
+use Rattle.spiral_sets.specs.Counts.{firsts_count, words_needed}
 use Rattle.spiral_model.specs.Words.{Poly, Cipher}
-use Rattle.spiral_model.specs.Sampling.{uniform_poly, error_poly, secret_numbers, secret_poly}
+use Rattle.spiral_model.specs.Sampling.{uniform_poly, error_poly}
 use Rattle.spiral_model.specs.Ciphertexts.{encrypted_row, encrypted_rows, encrypted, encrypted_all, words_taken, IsCipher}
-use Rattle.spiral_model.specs.Replies.{QueryState}
-use Rattle.spiral_model.specs.Bodies.{CipherBody, IsQuery, query_rows}
-use Rattle.spiral_model.specs.Keys.{SetKeys, lift_keys}
-use Rattle.spiral_model.specs.Answering.{Ready, ready_of}
-use Rattle.spiral_model.specs.Dealing.{scalar_secret, secret_rows, secret_polys, query_words, query_of, dealt_keys, state_of, query_body_of}
+use Rattle.spiral_model.specs.Bodies.{CipherBody, IsSetup, IsQuery, query_rows}
+use Rattle.spiral_model.specs.Keys.{lift_keys}
+use Rattle.spiral_model.specs.Answering.{ready_of}
+use Rattle.spiral_model.specs.Dealing.{scalar_secret, secret_rows, query_of, dealt_keys, key_body_of, query_body_of}
 use Rattle.spiral_model.specs.Noise.{NoiseRow, noise_left, noise_right, report_row, report_of, FitsReport, dealt_report, Fits}
 use Rattle.spiral_model.specs.Queries.{first_columns, selection_columns, query_messages}
-use Rattle.spiral_frames.specs.Frames.{Spell, CanBeSent, query_message}
+use Rattle.spiral_frames.specs.Frames.{Spell, CanBeSent, setup_message, query_message, frame_of}
 use Rattle.regev_code.specs.Seen.{Secrets, Cursor}
-use Rattle.regev_code.specs.Shapes.{under, secrets_from, taken}
 use Rattle.regev_code.proofs.Draws.{drawn-more}
 use Rattle.regev_code.proofs.Samples.{uniform_poly-below, length-uniform_poly}
 use Rattle.regev_code.proofs.Encryptions.{length-encrypted}
-use Rattle.regev_code.proofs.Secrets.{secrets_from-rows}
 use Rattle.gsw_code.specs.Columns.{row_secrets_of, ColumnsDrawn}
 use Rattle.noise_check.specs.declared.reported.Report.{Report}
 use Rattle.noise_check.specs.declared.reported.RowReport.{RowReport}
 use Rattle.noise_check.specs.Reports.{row_at, reported_at, IsReport, LeastMiss}
 use Rattle.noise_check.proofs.FittingRows.{row_read, miss_within, miss_left, before_miss}
 use Rattle.pir_client.specs.declared.asking.Asked.{Asked}
-use Rattle.pir_client.specs.declared.asking.Dealt.{Dealt}
-use Rattle.pir_client.specs.Asks.{IsAsked, IsDealt, FirstMiss}
-use Rattle.pir_client.proofs.SetNumbers.{setup_words-none, query_of-direct}
+use Rattle.pir_client.specs.declared.dealing.Dealt.{Dealt}
+use Rattle.pir_client.specs.Asks.{IsAsked, IsDealt, FirstMiss, setup_body, setup_frame, frame_if_any}
 use Rattle.pir_client.proofs.MessageLists.{firsts-lists, query-lists}
-use Rattle.pir_client.proofs.FirstWords.{no_keys, state-front, query-front, report-front}
+use Rattle.pir_client.proofs.FirstWords.{state-front, keys-front, query-front, report-front}
 
 -- N residues
 abbrev IsPoly : ℕ → Poly → Type 0
@@ -74,7 +69,8 @@ unfolding encrypted_all
 length-encrypted_all N words start secrets [] = refl
 length-encrypted_all N words start secrets (x ∷ xs) = ap (λ (n : ℕ). suc n) (length-encrypted_all N words (start + words_taken N (length x)) secrets xs)
 
-all-ciphers : (N m : ℕ) (words : List ℕ) (start : ℕ) (secrets : List Poly) (xs : List (List Poly)) → length secrets ≡ m → All (λ x. length x ≡ m) xs
+-- encryptions of m messages each are ciphertexts of m rows below row 0
+pub all-ciphers : (N m : ℕ) (words : List ℕ) (start : ℕ) (secrets : List Poly) (xs : List (List Poly)) → length secrets ≡ m → All (λ x. length x ≡ m) xs
     → All (IsCipher N m) (encrypted_all N words start secrets xs)
 unfolding encrypted_all
 all-ciphers N m words start secrets [] many all = All-nil (IsCipher N m)
@@ -113,74 +109,7 @@ parts_drawn set secrets index from mid to old half new firsts selections =
     drawn-more set.degree (rows set) (firsts_count set) s (flat_map (first_columns set index) (range_with_len 0 (places set))) (flat_map (selection_columns set s index) (range_with_len 0 set.nu2))
     (query_messages set s index) from mid to old half new (firsts-lists set index) refl firsts selections
 
-under-rows : (N : ℕ) (secret : Secrets) (pack : Bool) → pack ≡ false → under N secret pack ≡ map (secret_poly N) secret.rows
-under-rows N secret true plain = absurd (true≢false plain)
-under-rows N secret false plain = refl
-
-secrets-plain : (set : ParamSet) (words : List ℕ) (secret : Secrets) → set.pack ≡ false → secret ≡ secrets_from set words 0 → row_secrets_of set secret ≡ secret_polys set words
-secrets-plain set words secret plain drawn =
-    under-rows set.degree secret set.pack plain
-    ∙ ap (λ (rs : List (List ℤ)). map (secret_poly set.degree) rs) (ap (λ (s : Secrets). s.rows) drawn ∙ secrets_from-rows set words)
-
--- how many they are
-pub row_secrets-count : (set : ParamSet) (words : List ℕ) (start : ℕ) (secret : Secrets) → set.pack ≡ false → secret ≡ secrets_from set words start → length (row_secrets_of set secret) ≡ rows set
-row_secrets-count set words start secret plain is =
-    ap length (under-rows set.degree secret set.pack plain)
-    ∙ length-map secret.rows (secret_poly set.degree)
-    ∙ ap (λ (s : Secrets). length s.rows) is
-    ∙ length-map-range_with_len (λ r. secret_numbers set.degree words (start + (if has_keys set then set.degree else 0) + r * set.degree)) 0 set.n
-    ∙ sym (ap (λ (b : Bool). if b then 1 else set.n) plain)
-
--- the secrets at the front of the words
-first-secrets : (set : ParamSet) (words : List ℕ) (secret : Secrets) (first : Cursor) → first ≡ record { words = words; used = 0 }
-    → secret ≡ secrets_from set first.words first.used → secret ≡ secrets_from set words 0
-first-secrets set words secret first front drawn = drawn ∙ ap (λ (d : Cursor). secrets_from set d.words d.used) front
-
-pub state-drawn : (set : ParamSet) (words : List ℕ) (index : ℕ) (secret : Secrets) (first : Cursor) (state : QueryState) → first ≡ record { words = words; used = 0 }
-    → secret ≡ secrets_from set first.words first.used → state ≡ record { set = set; index = index; secret = flat_map (λ row. row) secret.rows }
-    → state ≡ state_of set words index
-unfolding state_of
-state-drawn set words index secret first state front drawn is =
-    is
-    ∙ ap {A = List (List ℤ)} {B = QueryState} (λ rs. record { set = set; index = index; secret = flat_map (λ row. row) rs })
-    (ap (λ (s : Secrets). s.rows) (first-secrets set words secret first front drawn) ∙ secrets_from-rows set words)
-
-pub query-drawn : (set : ParamSet) (words : List ℕ) (index : ℕ) (secret : Secrets) (first draw : Cursor) (query : CipherBody) → IsBuilt set
-    → first ≡ record { words = words; used = 0 } → secret ≡ secrets_from set first.words first.used → draw ≡ taken first (secret_words set) → query.set ≡ set
-    → query.ciphers ≡ encrypted_all set.degree draw.words draw.used (row_secrets_of set secret) (query_messages set (row_secrets_of set secret) index)
-    → query ≡ query_body_of set words index
-unfolding query_body_of
-query-drawn set words index secret first draw query built front drawn at of_set is =
-    let secrets = secrets-plain set words secret built.1 (first-secrets set words secret first front drawn) in
-    let none = setup_words-none set built.0 built.1 in
-    let begun : draw ≡ record { words = words; used = 0 + secret_words set } = at ∙ ap (λ (d : Cursor). taken d (secret_words set)) front in
-    let place : 0 + secret_words set ≡ query_words set = omega (arith, none) in
-    let E = λ (d : Cursor) (s : List Poly). encrypted_all set.degree d.words d.used s (query_messages set s index) in
-    let ciphers = is ∙ ap (E draw) secrets ∙ ap (λ (d : Cursor). E d (secret_polys set words)) begun
-    ∙ ap (λ (p : ℕ). encrypted_all set.degree words p (secret_polys set words) (query_messages set (secret_polys set words) index)) place
-    ∙ sym (query_of-direct set words index built.0 built.1) in
-    ap {A = ParamSet} {B = CipherBody} (λ s. record { set = s; ciphers = query.ciphers }) of_set
-    ∙ ap {A = List Cipher} {B = CipherBody} (λ cs. record { set = set; ciphers = cs }) ciphers
-
 -- ---- its noise
-
--- the report of a query made ready is that of the words
-pub report-dealt : (set : ParamSet) (words : List ℕ) (index : ℕ) (secret : Secrets) (first : Cursor) (query : CipherBody) (ready : Ready) (report : Report) → IsBuilt set
-    → first ≡ record { words = words; used = 0 } → secret ≡ secrets_from set first.words first.used → query ≡ query_body_of set words index
-    → ready ≡ ready_of set None query.ciphers → IsReport set (report_of set (scalar_secret set words) secret.rows index [] ready) report
-    → IsReport set (dealt_report set words index) report
-unfolding dealt_report query_body_of
-report-dealt set words index secret first query ready report built front drawn of_words made is =
-    let s : Poly = scalar_secret set words in
-    let rows : secret.rows ≡ secret_rows set words = ap (λ (x : Secrets). x.rows) (first-secrets set words secret first front drawn) ∙ secrets_from-rows set words in
-    let ciphers : query.ciphers ≡ query_of set words index = ap (λ (b : CipherBody). b.ciphers) of_words in
-    let keys : None ≡ dealt_keys set words = sym (no_keys set words built.0 built.1) in
-    let Of : Option SetKeys → Ready → List NoiseRow = λ sent r. report_of set s (secret_rows set words) index (lift_keys sent) r in
-    let same : report_of set s secret.rows index [] ready ≡ Of (dealt_keys set words) (ready_of set (dealt_keys set words) (query_of set words index)) =
-    ap (λ (numbers : List (List ℤ)). report_of set s numbers index [] ready) rows
-    ∙ ap (Of None) (made ∙ ap (ready_of set None) ciphers)
-    ∙ ap (λ (sent : Option SetKeys). Of sent (ready_of set sent (query_of set words index))) keys in
-    subst (λ (xs : List NoiseRow). IsReport set xs report) same is
 
 -- it has a row for each secret
 pub length-dealt : (set : ParamSet) (words : List ℕ) (index : ℕ) → length (dealt_report set words index) ≡ set.n
@@ -205,17 +134,49 @@ first-miss set rows report place row known is miss read =
       noise_is = ap (λ (k : ℕ). (row_at rows k).noise) back;
     })
 
--- What was dealt can be sent.
+-- What was dealt can be sent: the query,
 pub dealt-sendable : (set : ParamSet) (index : ℕ) (words : List ℕ) (dealt : Dealt) → IsBuilt set → IsDealt set index words dealt → CanBeSent (query_message dealt.query)
 unfolding query_body_of
 dealt-sendable set index words dealt built is =
     let of_set : set ≡ dealt.query.set = sym (ap (λ (b : CipherBody). b.set) is.query) in (subst IsBuilt of_set built, is.shape)
 
+-- the keys of an option that is there
+body_there : (has : Bool) (body other : CipherBody) → Some body ≡ (if has then Some other else None) → body ≡ other
+body_there true body other h = cc
+body_there false body other h = absurd (cc)
+
+-- and the keys,
+keys-sendable-by : (set : ParamSet) (words : List ℕ) (setup : Option CipherBody) → IsBuilt set → setup ≡ setup_body set words → IfSome setup (λ body. IsSetup body)
+    → IfSome setup (λ body. CanBeSent (setup_message body))
+unfolding setup_body key_body_of
+keys-sendable-by set words None built is shape = tt
+keys-sendable-by set words (Some body) built is shape =
+    let same = body_there (has_keys set) body (key_body_of set words) is in
+    let of_set : set ≡ body.set = sym (ap (λ (b : CipherBody). b.set) same) in (subst IsBuilt of_set built, shape)
+
+pub keys-sendable : (set : ParamSet) (index : ℕ) (words : List ℕ) (dealt : Dealt) (sent : Option CipherBody) → IsBuilt set → IsDealt set index words dealt → sent ≡ dealt.setup
+    → IfSome sent (λ body. CanBeSent (setup_message body))
+keys-sendable set index words dealt sent built is same =
+    subst (λ (setup : Option CipherBody). IfSome setup (λ body. CanBeSent (setup_message body))) (sym same)
+    (keys-sendable-by set words dealt.setup built is.setup is.keys)
+
+frame_where : (has : Bool) (body : CipherBody) → frame_if_any (if has then Some body else None) ≡ (if has then frame_of (setup_message body) else [])
+frame_where true body = refl
+frame_where false body = refl
+
+-- whose frame is that of the words.
+pub keys-framed : (set : ParamSet) (index : ℕ) (words : List ℕ) (dealt : Dealt) (sent : Option CipherBody) (bytes : List ℕ) → IsDealt set index words dealt → sent ≡ dealt.setup
+    → bytes ≡ frame_if_any sent → bytes ≡ setup_frame set words
+unfolding setup_body setup_frame
+keys-framed set index words dealt sent bytes is same framed =
+    framed ∙ ap frame_if_any (same ∙ is.setup) ∙ frame_where (has_keys set) (key_body_of set words)
+
 -- ---- what is asked
 
 -- what was dealt and fits, as it is handed out
 pub asked-is : (set : ParamSet) (index : ℕ) (words : List ℕ) (dealt : Dealt) (asked : Asked) → IsDealt set index words dealt → asked.state ≡ dealt.state
-    → asked.setup.items ≡ [] → Spell (query_message dealt.query) asked.query.items → asked.report ≡ dealt.report → Fits set words index → IsAsked set index words asked
+    → asked.setup.items ≡ setup_frame set words → Spell (query_message dealt.query) asked.query.items → asked.report ≡ dealt.report → Fits set words index
+    → IsAsked set index words asked
 asked-is set index words dealt asked is state setup spelled report fits = record {
   state = state ∙ is.state;
   setup = setup;
@@ -225,14 +186,16 @@ asked-is set index words dealt asked is state setup spelled report fits = record
 }
 
 -- The words past the needed ones change nothing.
-pub asked-front : (set : ParamSet) (index : ℕ) (words : List ℕ) (asked : Asked) → IsSet set → IsBuilt set → IsAsked set index words asked
+pub asked-front : (set : ParamSet) (index : ℕ) (words : List ℕ) (asked : Asked) → IsSet set → IsAsked set index words asked
     → IsAsked set index (take (words_needed set) words) asked
-asked-front set index words asked known built is =
-    let same = report-front set (words_needed set) words index known built.0 built.1 (omega arith) in
+asked-front set index words asked known is =
+    let k = words_needed set in
+    let all : words_needed set ≤ k = omega arith in
+    let same = report-front set k words index known all in
     record {
-      state = is.state ∙ state-front set (words_needed set) words index built.0 built.1 (omega arith);
-      setup = is.setup;
-      query = subst (λ (body : CipherBody). Spell (query_message body) asked.query.items) (query-front set (words_needed set) words index built.0 built.1 (omega arith)) is.query;
+      state = is.state ∙ state-front set k words index all;
+      setup = is.setup ∙ keys-front set k words known all;
+      query = subst (λ (body : CipherBody). Spell (query_message body) asked.query.items) (query-front set k words index known all) is.query;
       report = subst (λ (rows : List NoiseRow). IsReport set rows asked.report) same is.report;
       fits = subst (λ (rows : List NoiseRow). FitsReport set rows) same is.fits;
     }

@@ -1,18 +1,20 @@
--- How many words and ciphertexts the query of a set takes that sends its ciphertexts and doesn't pack, and its secrets.
-use Rattle.std.proofs.Common.{◌≡◌, ℕ, ◌+◌, ◌*◌, true, false, List, refl, arith}
+-- How many words and ciphertexts the query of a set takes, and whether it is sent or expanded.
+use Rattle.std.proofs.Common.{◌≡◌, ℕ, ◌+◌, ◌*◌, ◌||◌, not, Bool, true, false, if◌then◌else◌, List, [], ◌∷◌, refl, ◌∙◌, ap, arith}
+use Rattle.std.proofs.lemmas.Bool.{true≢false}
 use Rattle.spiral_sets.specs.declared.param_set.ParamSet.{ParamSet}
-use Rattle.spiral_sets.specs.Sets.{rows}
-use Rattle.spiral_sets.specs.Counts.{firsts_count, gsw_count, ciphertext_count, setup_ciphertexts, query_ciphertexts, words_of}
+use Rattle.spiral_sets.specs.Sets.{IsBuilt, rows, has_keys}
+use Rattle.spiral_sets.specs.Counts.{firsts_count, gsw_count, ciphertext_count, query_ciphertexts, words_of}
+use Rattle.spiral_model.specs.Words.{Cipher}
 use Rattle.spiral_model.specs.Ciphertexts.{words_taken, encrypted_all}
-use Rattle.spiral_model.specs.Queries.{query_messages}
-use Rattle.spiral_model.specs.Dealing.{secret_polys, row_secrets, query_words, query_of}
+use Rattle.spiral_model.specs.Queries.{query_messages, query_poly}
+use Rattle.spiral_model.specs.Dealing.{scalar_secret, row_secrets, query_words, query_of}
 
 parts-words : (a b T : ℕ) → (a + b) * T ≡ a * T + b * T
 parts-words a b T = omega arith
 
--- a set without keys has no setup
-pub setup_words-none : (set : ParamSet) → set.direct ≡ true → set.pack ≡ false → words_of set (setup_ciphertexts set) ≡ 0
-setup_words-none set direct plain = rw (direct, plain) refl
+-- a set that this program handles doesn't pack
+pub built-plain : (set : ParamSet) → IsBuilt set → set.pack ≡ false
+built-plain set built = built
 
 -- the words of the first dimension and those of the selections
 pub query_words-are : (set : ParamSet) → set.direct ≡ true
@@ -30,8 +32,45 @@ query_count-words set direct =
     let words = query_words-are set direct in
     rw (query_count-is set direct) (omega (arith, parts, words))
 
--- the query of a set that sends its ciphertexts and doesn't pack
-pub query_of-direct : (set : ParamSet) (words : List ℕ) (index : ℕ) → set.direct ≡ true → set.pack ≡ false
-    → query_of set words index ≡ encrypted_all set.degree words (query_words set) (secret_polys set words) (query_messages set (secret_polys set words) index)
+-- the words of the one ciphertext of a query that is expanded
+pub query_words-one : (set : ParamSet) → set.direct ≡ false → words_of set (query_ciphertexts set) ≡ 1 * words_taken set.degree 1
+query_words-one set expands = rw expands (omega arith)
+
+-- the query's ciphertexts, sent or one that is expanded
+abbrev query_by : ParamSet → List ℕ → ℕ → Bool → List Cipher
+query_by set words index true = encrypted_all set.degree words (query_words set) (row_secrets set words) (query_messages set (row_secrets set words) index)
+query_by set words index false = encrypted_all set.degree words (query_words set) (scalar_secret set words ∷ []) ((query_poly set index ∷ []) ∷ [])
+
+chosen : {A : Type 0} (f : Bool → A) (b : Bool) → (if b then f true else f false) ≡ f b
+chosen f true = refl
+chosen f false = refl
+
+query_of-by : (set : ParamSet) (words : List ℕ) (index : ℕ) → query_of set words index ≡ query_by set words index set.direct
 unfolding query_of
-query_of-direct set words index direct plain = rw (direct, plain) refl
+query_of-by set words index = chosen (query_by set words index) set.direct
+
+-- the query of a set that sends its ciphertexts
+pub query_of-sent : (set : ParamSet) (words : List ℕ) (index : ℕ) → set.direct ≡ true
+    → query_of set words index ≡ encrypted_all set.degree words (query_words set) (row_secrets set words) (query_messages set (row_secrets set words) index)
+query_of-sent set words index direct = query_of-by set words index ∙ ap (query_by set words index) direct
+
+-- and of one that expands it
+pub query_of-expanded : (set : ParamSet) (words : List ℕ) (index : ℕ) → set.direct ≡ false
+    → query_of set words index ≡ encrypted_all set.degree words (query_words set) (scalar_secret set words ∷ []) ((query_poly set index ∷ []) ∷ [])
+query_of-expanded set words index expands = query_of-by set words index ∙ ap (query_by set words index) expands
+
+has_keys-by : (direct pack : Bool) → direct ≡ false → (not direct || pack) ≡ true
+has_keys-by true pack expands = absurd (true≢false expands)
+has_keys-by false pack expands = refl
+
+-- a set that expands its queries has keys,
+pub expanding-keys : (set : ParamSet) → set.direct ≡ false → has_keys set ≡ true
+expanding-keys set expands = has_keys-by set.direct set.pack expands
+
+no_keys-by : (direct pack : Bool) → (not direct || pack) ≡ false → direct ≡ true
+no_keys-by true pack none = refl
+no_keys-by false pack none = absurd (true≢false none)
+
+-- and one without keys sends them
+pub keyless-direct : (set : ParamSet) → has_keys set ≡ false → set.direct ≡ true
+keyless-direct set none = no_keys-by set.direct set.pack none

@@ -1,31 +1,46 @@
 -- What a client makes of random words, and why it may not.
-use Rattle.std.specs.Prelude.{ℕ, List, [], ◌≡◌, ◌-◌, ◌<◌, ◌≤◌, length, take, Result, Ok, Err}
+use Rattle.std.specs.Prelude.{ℕ, List, [], ◌≡◌, ◌-◌, ◌<◌, ◌≤◌, length, take, if◌then◌else◌, Option, Some, None, IfSome, Result, Ok, Err}
 use Rattle.spiral_sets.specs.declared.param_set.ParamSet.{ParamSet}
-use Rattle.spiral_sets.specs.Sets.{max_records}
+use Rattle.spiral_sets.specs.Sets.{max_records, has_keys}
 use Rattle.spiral_sets.specs.Counts.{words_needed}
-use Rattle.spiral_model.specs.Dealing.{state_of, query_body_of}
-use Rattle.spiral_model.specs.Bodies.{IsQuery}
+use Rattle.spiral_model.specs.Dealing.{state_of, key_body_of, query_body_of}
+use Rattle.spiral_model.specs.Bodies.{CipherBody, IsSetup, IsQuery}
 use Rattle.spiral_model.specs.Noise.{NoiseRow, noise_left, noise_right, FitsReport, dealt_report, Fits}
-use Rattle.spiral_frames.specs.Frames.{Spell, query_message}
+use Rattle.spiral_frames.specs.Frames.{Spell, setup_message, query_message, frame_of}
 use Rattle.noise_check.specs.declared.reported.Report.{Report}
 use Rattle.noise_check.specs.Reports.{row_at, IsReport}
 use Rattle.pir_client.specs.declared.asking.Asked.{Asked}
-use Rattle.pir_client.specs.declared.asking.Dealt.{Dealt}
+use Rattle.pir_client.specs.declared.dealing.Dealt.{Dealt}
 use Rattle.pir_client.specs.declared.asking.AskError.{AskError}
 use Rattle.pir_client.specs.declared.asking.AskError.TheVariants.{IndexRange, WordsShort, TooNoisy, NoMemory}
 
--- The state, the query and the report that the words give for the index, the query as its frame; a set without keys has no setup. Fits
--- holds of the query.
+-- The keys that words deal for a set, as a Setup carries them; none in a set without keys.
+unfoldable pub setup_body : ParamSet → List ℕ → Option CipherBody
+setup_body set words = if has_keys set then Some (key_body_of set words) else None
+
+-- Their Setup frame; empty in a set without keys.
+unfoldable pub setup_frame : ParamSet → List ℕ → List ℕ
+setup_frame set words = if has_keys set then frame_of (setup_message (key_body_of set words)) else []
+
+-- the Setup frame of keys, where there are any
+abbrev pub frame_if_any : Option CipherBody → List ℕ
+frame_if_any (Some body) = frame_of (setup_message body)
+frame_if_any None = []
+
+-- The state, the keys, the query and the report that the words give for the index, the keys and the query as their frames. Fits holds of
+-- the query.
 pub record IsAsked (set : ParamSet) (index : ℕ) (words : List ℕ) (asked : Asked) : Type 0 where
   pub state : asked.state ≡ state_of set words index
-  pub setup : asked.setup.items ≡ []
+  pub setup : asked.setup.items ≡ setup_frame set words
   pub query : Spell (query_message (query_body_of set words index)) asked.query.items
   pub report : IsReport set (dealt_report set words index) asked.report
   pub fits : Fits set words index
 
--- What words deal for an index: the state, the query in its shape, and the query's noise.
+-- What words deal for an index: the state, the keys and the query in their shapes, and the query's noise.
 pub record IsDealt (set : ParamSet) (index : ℕ) (words : List ℕ) (dealt : Dealt) : Type 0 where
   pub state : dealt.state ≡ state_of set words index
+  pub setup : dealt.setup ≡ setup_body set words
+  pub keys : IfSome dealt.setup (λ body. IsSetup body)
   pub query : dealt.query ≡ query_body_of set words index
   pub shape : IsQuery dealt.query
   pub report : IsReport set (dealt_report set words index) dealt.report

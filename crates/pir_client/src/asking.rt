@@ -1,17 +1,16 @@
-ghost use Rattle.std.specs.Prelude.{◌<◌, ◌≤◌, length, take, IfOk, MatchResult};
-ghost use Rattle.spiral_sets.specs.Sets.{IsSet, IsBuilt, max_records};
+ghost use Rattle.std.specs.Prelude.{◌≡◌, take, IfOk, IfSome, MatchResult};
+ghost use Rattle.std.specs.Option.{option_copied};
+ghost use Rattle.spiral_sets.specs.Sets.{IsSet, IsBuilt};
 ghost use Rattle.spiral_sets.specs.Counts.{words_needed};
-ghost use Rattle.pir_client.specs.Asks.{Asks, IsAsked, IsDealt, MayAsk, Measures};
+ghost use Rattle.spiral_frames.specs.Frames.{CanBeSent, setup_message};
+ghost use Rattle.pir_client.specs.Asks.{Asks, IsAsked, MayAsk, Measures, frame_if_any};
 
-use crate::query::draw_query;
-use crate::state::state_of_secret;
+use crate::dealing::deal;
 use modulus_switch::ClientState;
 use no_memory::NoMemory;
-use noise_check::{Report, first_miss, measure};
-use pir_wire::encode_query;
-use query_expand::ready;
-use regev_code::{Draw, QueryBody, Scratch, draw_secret};
-use ring_poly::Ring;
+use noise_check::{Report, first_miss};
+use pir_wire::{encode_query, encode_setup};
+use regev_code::KeyBody;
 use spiral_sets::ParamSet;
 use std::alloc::Global;
 use thiserror::Error;
@@ -53,14 +52,6 @@ impl From<NoMemory> for AskError {
     }
 }
 
-/// What words deal for an index, and its noise.
-#[derive(Drop)]
-pub(crate) struct Dealt {
-    pub(crate) state: ClientState,
-    pub(crate) query: QueryBody,
-    pub(crate) report: Report,
-}
-
 /// Whether the index is in range, and there are as many words as the set needs.
 fn check_words(set: &ParamSet, index: u32, words: &[u64]) -> Result<(), AskError>
     requires { IsSet set.now }
@@ -78,32 +69,19 @@ fn check_words(set: &ParamSet, index: u32, words: &[u64]) -> Result<(), AskError
     Ok(())
 }
 
-/// The state and the query that the words give for the index, and the noise of the query. The words are used in order: N
-/// for each secret, then those of each ciphertext.
-fn deal(alloc: Global, set: &ParamSet, index: u32, words: &[u64]) -> Result<Dealt, NoMemory>
-    requires known { IsSet set.now }
-    requires built { IsBuilt set.now }
-    requires index { index < max_records set.now }
-    requires words { words_needed set.now ≤ length words.now }
-    ensures { IfOk result (λ dealt. IsDealt set.now index words.now dealt) }
+/// The Setup frame of the keys, where there are any; else no bytes.
+fn setup_bytes(alloc: Global, setup: Option<&KeyBody>) -> Result<Vec<u8>, NoMemory>
+    requires { IfSome (option_copied setup) (λ body. CanBeSent (setup_message body)) }
+    ensures { IfOk result (λ bytes. bytes.items ≡ frame_if_any (option_copied setup.entry)) }
 {
-    let mut draw = Draw::new(words);
-    let secret = draw_secret(alloc, set, &mut draw)?;
-    let state = state_of_secret(alloc, set, index, &secret)?;
-    let ring = Ring::new(alloc, set.degree as usize)?;
-    let query = draw_query(alloc, &ring, set, &secret, index, &mut draw)?;
-    let mut scratch = Scratch::new(alloc, set)?;
-    let ready = ready(alloc, &ring, set, None, &query, &mut scratch)?;
-    let report = measure(alloc, &ring, set, &secret, index, &ready, None)?;
-    Ok(Dealt {
-        state,
-        query,
-        report,
-    })
+    match setup {
+        Some(body) => Ok(encode_setup(alloc, body)?),
+        None => Ok(Vec::new(alloc)),
+    }
 }
 
-/// The query for the record at an index, and what the client keeps to open the reply, dealt from words: where Fits holds
-/// of its noise, so that the reply opens to that record and no other.
+/// The keys and the query for the record at an index, and what the client keeps to open the reply, dealt from words: where
+/// Fits holds of the query's noise, so that the reply opens to that record and no other.
 ///
 /// **One fresh seed per query: two queries from the same words show the server how their indices differ.** Words past
 /// the needed ones change nothing.
@@ -122,10 +100,12 @@ pub fn ask(alloc: Global, set: &ParamSet, index: u32, words: &[u64]) -> Result<A
             noise: row.noise,
         });
     }
+    let setup = setup_bytes(alloc, dealt.setup.as_ref())?;
+    let query = encode_query(alloc, &dealt.query)?;
     Ok(Asked {
-        query: encode_query(alloc, &dealt.query)?,
         state: dealt.state,
-        setup: Vec::new(alloc),
+        setup,
+        query,
         report: dealt.report,
     })
 }

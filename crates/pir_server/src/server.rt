@@ -1,8 +1,10 @@
-ghost use Rattle.std.specs.Prelude.{◌≡◌, ◌≤◌, IfOk};
+ghost use Rattle.std.specs.Prelude.{true, ◌≡◌, ◌≤◌, IfOk};
 ghost use Rattle.std.specs.Option.{option_copied};
-ghost use Rattle.spiral_model.specs.Sets.{IsBuilt};
-ghost use Rattle.spiral_model.specs.Bodies.{IsQuery};
+ghost use Rattle.spiral_model.specs.Sets.{IsBuilt, has_keys};
+ghost use Rattle.spiral_model.specs.Bodies.{IsSetup, IsQuery};
+ghost use Rattle.spiral_model.specs.Keys.{keys_in};
 ghost use Rattle.spiral_model.specs.Answering.{ready_of, answer_of};
+ghost use Rattle.query_expand.specs.AskedKeys.{AreKeysFor};
 
 use crate::answering::{blank_reply, fill_reply, scratches, zero_outputs};
 use crate::folding::work_out;
@@ -12,7 +14,7 @@ use no_memory::NoMemory;
 use pir_io::Gate;
 use query_expand::ready;
 use record_store::Database;
-use regev_code::{Cipher, EvalKeys, QueryBody, Scratch};
+use regev_code::{Cipher, EvalKeys, KeyBody, QueryBody, Scratch};
 use ring_poly::Ring;
 use spiral_model::ParamSet;
 use std::alloc::Global;
@@ -90,8 +92,18 @@ impl Server {
         self.db.set
     }
 
-    /// The answer to a query: the first dimension over the database, folded by the query's selections, and switched to the
-    /// small moduli of a reply. The same for each number of workers.
+    /// The keys that a setup of its set carries, in product form. Brought into it once, they serve every query of that setup.
+    pub fn keys(&self, setup: &KeyBody) -> Result<EvalKeys, NoMemory>
+        requires set { setup.now.set ≡ self.now.table.set }
+        requires keys { has_keys setup.now.set ≡ true }
+        requires setup { IsSetup setup.now }
+        ensures { IfOk result (λ keys. keys ≡ keys_in setup.now) }
+    {
+        EvalKeys::from_body(self.alloc, &self.ring, setup)
+    }
+
+    /// The answer to a query, which a set that isn't direct expands by its keys: the first dimension over the database, folded by the
+    /// query's selections, and switched to the small moduli of a reply. The same for each number of workers.
     pub fn answer<R: Threads + Sync, G: Gate>(
         &mut self,
         rt: &R,
@@ -101,6 +113,7 @@ impl Server {
     ) -> Result<Reply, NoMemory>
         requires set { query.now.set ≡ self.old.table.set }
         requires query { IsQuery query.now }
+        requires keys { AreKeysFor self.old.table.set (option_copied keys) }
         ensures reply { IfOk result (λ reply. reply ≡ answer_of self.old.table (option_copied keys.entry) (ready_of self.old.table.set (option_copied keys.entry) query.now.ciphers)) }
         ensures server { self.new ≡ self.old }
     {

@@ -4,4 +4,5 @@ pub mod Pieces
 pub mod States
 pub mod Replies
 pub mod Queries
+pub mod Setups
 pub mod WholeFrames

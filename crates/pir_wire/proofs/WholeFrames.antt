@@ -13,6 +13,7 @@ use Rattle.spiral_model.specs.Databases.{RecordTable}
 use Rattle.spiral_frames.specs.Frames.{Message, PeerRefusal, setup_message, query_message, reply_message, refuse_message, state_message, database_message, kind_of, set_of_message, body_of, frame_of, IsMessage, CanBeSent, IsOne}
 use Rattle.spiral_frames.proofs.FrameLaws.{frame_is, known_of, length-frame, only_front}
 use Rattle.spiral_frames.proofs.Bodies.{length-query_body, length-state_body, length-reply_body}
+use Rattle.spiral_frames.proofs.SetupBodies.{length-setup_body}
 use Rattle.pir_wire.specs.Headers.{header_of, frame_len_of, BeginsWith, HasOtherFront}
 use Rattle.pir_wire.specs.Bodies.{IsBodyOf, HasOneLength}
 
@@ -45,7 +46,7 @@ pub of_kind : (P : Message → Type 0) (kind : FrameKind) → OfKind P kind → 
 of_kind P kind each m is = at_message P m (subst (OfKind P) (sym is) each)
 
 body_length : (m : Message) → HasOneLength (kind_of m) → IsMessage m → length (body_of m) ≡ body_len_of (kind_of m) (set_of_message m)
-body_length (setup_message keys) one kept = absurd one
+body_length (setup_message keys) one kept = length-setup_body keys kept
 body_length (query_message query) one kept = length-query_body query kept
 body_length (reply_message reply) one kept = length-reply_body reply kept
 body_length (refuse_message refusal) one kept = absurd one

@@ -2,7 +2,7 @@
 use Rattle.std.specs.Prelude.{ℕ, List, ◌≡◌}
 use Rattle.spiral_sets.specs.declared.param_set.ParamSet.{ParamSet}
 use Rattle.frame_headers.specs.declared.kind.FrameKind.{FrameKind}
-use Rattle.frame_headers.specs.declared.kind.FrameKind.TheVariants.{Query, Reply, State}
+use Rattle.frame_headers.specs.declared.kind.FrameKind.TheVariants.{Setup, Query, Reply, State}
 use Rattle.spiral_frames.specs.Frames.{Message, IsMessage, set_of_message, body_of}
 
 -- the bytes are the body of the frame of this message, of that set
@@ -13,6 +13,7 @@ pub record IsBodyOf (set : ParamSet) (body : List ℕ) (message : Message) : Typ
 
 -- The kinds that are read here: each message of such a kind and of one set has a body of one length, `body_len_of` of both.
 abbrev pub HasOneLength : FrameKind → Type 0
+HasOneLength Setup = Unit {0}
 HasOneLength Query = Unit {0}
 HasOneLength Reply = Unit {0}
 HasOneLength State = Unit {0}

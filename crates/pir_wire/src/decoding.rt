@@ -14,6 +14,7 @@ mod pieces;
 mod query;
 mod reply;
 mod residues;
+mod setup;
 mod state;
 
 use header::read_header;

@@ -1,7 +1,7 @@
 ghost use Rattle.std.specs.Prelude.{◌≡◌, ◌++◌, map, replicate, All, IfOk};
 ghost use Rattle.spiral_sets.specs.Sets.{IsBuilt};
 ghost use Rattle.spiral_model.specs.Replies.{IsTernary};
-ghost use Rattle.spiral_frames.specs.Frames.{CanBeSent, Spell, query_message, reply_message, state_message, secret_byte as secret_byte_of};
+ghost use Rattle.spiral_frames.specs.Frames.{CanBeSent, Spell, setup_message, query_message, reply_message, state_message, secret_byte as secret_byte_of};
 
 use crate::header::begin_frame;
 use crate::reply::{push_body, push_mask};
@@ -9,7 +9,7 @@ use crate::residues::push_ciphers;
 use frame_headers::FrameKind;
 use modulus_switch::{ClientState, Reply};
 use no_memory::NoMemory;
-use regev_code::QueryBody;
+use regev_code::{KeyBody, QueryBody};
 use std::alloc::Global;
 
 /// The byte of a number of a secret: the number plus 1.
@@ -47,6 +47,17 @@ fn zeros(alloc: Global, count: usize) -> Result<Vec<u64>, NoMemory>
     ensures { IfOk result (λ v. v.items ≡ replicate count 0) }
 {
     Ok(vec![in alloc; 0u64; count]?)
+}
+
+/// The Setup frame of a set's keys.
+pub fn encode_setup(alloc: Global, keys: &KeyBody) -> Result<Vec<u8>, NoMemory>
+    requires { CanBeSent (setup_message keys.now) }
+    ensures { IfOk result (λ bytes. Spell (setup_message keys.now) bytes.items) }
+{
+    let mut numbers = zeros(alloc, keys.set.degree as usize)?;
+    let mut out = begin_frame(alloc, FrameKind::Setup, &keys.set)?;
+    push_ciphers(&mut out, &keys.ciphers, &mut numbers)?;
+    Ok(out)
 }
 
 /// The Query frame of a query.

@@ -8,4 +8,4 @@ mod reply;
 mod residues;
 
 pub use decoding::{FramedMessage, decode, reading_limit};
-pub use encode::{encode_query, encode_reply, encode_state};
+pub use encode::{encode_query, encode_reply, encode_setup, encode_state};

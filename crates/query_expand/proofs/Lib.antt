@@ -1,1 +1,6 @@
 pub mod Cuts
+pub mod RoundPowers
+pub mod HalfRows
+pub mod Rounds
+pub mod SetRounds
+pub mod Expansions

@@ -9,3 +9,6 @@ pub mod Draws
 pub mod Products
 pub mod DigitSums
 pub mod Rooms
+pub mod KeyWidths
+pub mod Switching
+pub mod KeyCuts

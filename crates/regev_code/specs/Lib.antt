@@ -1,4 +1,5 @@
 pub mod Seen
 pub mod Shapes
 pub mod Products
+pub mod KeyShapes
 pub mod Drawn

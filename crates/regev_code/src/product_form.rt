@@ -141,6 +141,50 @@ impl CipherT {
     }
 }
 
+/// A polynomial in product form.
+fn row_form(alloc: Global, ring: &Ring, row: &Poly) -> Result<PolyT, NoMemory>
+    requires { length row.now ≡ ring.now }
+    ensures { IfOk result (λ a. a ≡ row.now) }
+{
+    let mut a = PolyT::zero(alloc, ring.degree())?;
+    ring.to_product(row, &mut a);
+    Ok(a)
+}
+
+/// Polynomials in product form, one by one.
+fn row_forms(alloc: Global, ring: &Ring, rows: &[Poly]) -> Result<Vec<PolyT>, NoMemory>
+    requires { All (λ a. length a ≡ ring.now) rows.now }
+    ensures { IfOk result (λ forms. forms.items ≡ rows.now) }
+{
+    let mut forms = Vec::new(alloc);
+    for row in rows {
+        forms.push(row_form(alloc, ring, row)?)?;
+    }
+    Ok(forms)
+}
+
+/// A ciphertext in product form.
+pub fn form_of(alloc: Global, ring: &Ring, c: &Cipher) -> Result<CipherT, NoMemory>
+    requires degree { All (λ a. length a ≡ ring.now) c.now }
+    ensures { IfOk result (λ form. form ≡ c.now) }
+{
+    Ok(CipherT {
+        polys: row_forms(alloc, ring, &c.polys)?,
+    })
+}
+
+/// Ciphertexts in product form, one by one.
+pub fn forms_of(alloc: Global, ring: &Ring, ciphers: &[Cipher]) -> Result<Vec<CipherT>, NoMemory>
+    requires degrees { All (λ c. All (λ a. length a ≡ ring.now) c) ciphers.now }
+    ensures { IfOk result (λ forms. forms.items ≡ ciphers.now) }
+{
+    let mut forms = Vec::new(alloc);
+    for cipher in ciphers {
+        forms.push(form_of(alloc, ring, cipher)?)?;
+    }
+    Ok(forms)
+}
+
 /// Writes the product form of a ciphertext. It takes no memory.
 pub fn to_form(ring: &Ring, c: &Cipher, out: &mut CipherT)
     requires rows { length out.old ≡ length c.now }

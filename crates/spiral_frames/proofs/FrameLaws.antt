@@ -3,7 +3,7 @@ use Rattle.std.proofs.Common.{◌≡◌, ℕ, ◌+◌, ◌<◌, ◌≤◌, ◌�
 use Rattle.std.proofs.lemmas.List.{take_all}
 use Rattle.negacyclic.specs.Digits.{number_of}
 use Rattle.spiral_sets.specs.Sets.{IsSet, name_of}
-use Rattle.spiral_sets.specs.Counts.{query_len, state_len, reply_len}
+use Rattle.spiral_sets.specs.Counts.{setup_len, query_len, state_len, reply_len}
 use Rattle.spiral_sets.proofs.SetNames.{same_from_name}
 use Rattle.frame_headers.specs.declared.kind.FrameKind.{FrameKind}
 use Rattle.frame_headers.specs.declared.kind.FrameKind.TheVariants.{Reply, State}
@@ -15,11 +15,15 @@ use Rattle.spiral_model.specs.Replies.{QueryState, SwitchedReply}
 use Rattle.spiral_model.specs.Databases.{RecordTable}
 use Rattle.spiral_frames.specs.Frames.{Message, setup_message, query_message, reply_message, refuse_message, state_message, database_message, kind_of, set_of_message, body_of, frame_of, state_body, reply_body, cipher_bytes, database_body, CanBeSent, IsOne}
 use Rattle.spiral_frames.proofs.Bodies.{length-query_body, length-state_body, length-reply_body, length-database_body, index_in_body, count_in_body}
+use Rattle.spiral_frames.proofs.SetupBodies.{length-setup_body}
 
 -- the frame of a message, its body of so many bytes
 pub frame_is : (m : Message) (len : ℕ) → length (body_of m) ≡ len → frame_of m ≡ header (code_of_kind (kind_of m)) (set_of_message m) len ++ body_of m
 unfolding frame_of
 frame_is m len e = ap (λ (k : ℕ). header (code_of_kind (kind_of m)) (set_of_message m) k ++ body_of m) e
+
+pub setup_frame_is : (keys : CipherBody) → CanBeSent (setup_message keys) → frame_of (setup_message keys) ≡ header 1 keys.set (setup_len keys.set) ++ cipher_bytes keys.ciphers
+setup_frame_is keys fits = frame_is (setup_message keys) (setup_len keys.set) (length-setup_body keys fits.1)
 
 pub query_frame_is : (query : CipherBody) → CanBeSent (query_message query) → frame_of (query_message query) ≡ header 2 query.set (query_len query.set) ++ cipher_bytes query.ciphers
 query_frame_is query fits = frame_is (query_message query) (query_len query.set) (length-query_body query fits.1)

@@ -50,7 +50,7 @@ same_state x s t hs ht =
 -- ---- a reply
 
 -- the two parts of a list, where the first has one length
-same_parts : {A : Type 0} (n : ℕ) (xs ys us vs : List A) → length xs ≡ n → length us ≡ n → xs ++ ys ≡ us ++ vs → (xs ≡ us) × (ys ≡ vs)
+pub same_parts : {A : Type 0} (n : ℕ) (xs ys us vs : List A) → length xs ≡ n → length us ≡ n → xs ++ ys ≡ us ++ vs → (xs ≡ us) × (ys ≡ vs)
 same_parts n xs ys us vs first other e =
     (sym (take_at xs ys n first) ∙ ap (take n) e ∙ take_at us vs n other, sym (drop_at xs ys n first) ∙ ap (drop n) e ∙ drop_at us vs n other)
 

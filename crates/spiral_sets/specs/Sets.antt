@@ -27,10 +27,10 @@ named_among name (other ∷ others) [] = None
 abbrev pub set_of : List ℕ → Option ParamSet
 set_of name = named_among name names SETS
 
--- the sets that this program handles so far: those that send their ciphertexts and don't pack, that is
--- tiny-stream, edge-256 and stream-2048
+-- the sets that this program handles so far: those that don't pack, that is tiny-spiral, tiny-stream, edge-256, spiral-2048,
+-- stream-2048 and big-2048
 abbrev pub IsBuilt : ParamSet → Type 0
-IsBuilt set = (set.direct ≡ true) × (set.pack ≡ false)
+IsBuilt set = set.pack ≡ false
 
 -- q, the modulus of the ring: 268369921 * 249561089
 unfoldable pub q : ℕ

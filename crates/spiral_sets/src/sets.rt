@@ -97,7 +97,7 @@ impl ParamSet {
         requires { IsSet self.now }
         ensures { IsTrue result ↔ IsBuilt self.now }
     {
-        self.direct && !self.pack
+        !self.pack
     }
 
     /// How many records a database of the set has at most: 2^(nu1 + nu2).

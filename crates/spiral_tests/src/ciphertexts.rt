@@ -8,11 +8,11 @@ ghost use Rattle.spiral_tests.specs.Edge.{edge};
 use crate::fixtures::{
     Rows, are_ciphers, cipher, columns_of, edge_set, expect_cipher, expect_polynomial, polynomial,
 };
-use gsw_code::{Gsw, forms_of};
+use gsw_code::Gsw;
 use modulus_switch::{ClientState, Reply, open_matrix};
 use regev_code::{
-    Cipher, CipherT, Draw, Room, Scratch, add_digit_sum, draw_cipher, draw_secret, from_form,
-    is_cipher, phase, seeded_words, to_form,
+    Cipher, CipherT, Draw, Room, Scratch, add_digit_sum, draw_cipher, draw_secret, forms_of,
+    from_form, is_cipher, phase, seeded_words, to_form,
 };
 use ring_poly::{Poly, Q, Ring};
 use spiral_sets::ParamSet;
@@ -183,19 +183,12 @@ fn columns_are_their_messages(rt: HostRuntime) -> Result<(), Fail> {
 }
 
 /// Ciphertexts of edge-256 in product form.
-fn key_of(
-    alloc: Global,
-    ring: &Ring,
-    set: &ParamSet,
-    columns: &[Cipher],
-) -> Result<Vec<CipherT>, Fail>
-    requires known { IsSet set.now }
-    requires set { set.now ≡ edge }
+fn key_of(alloc: Global, ring: &Ring, columns: &[Cipher]) -> Result<Vec<CipherT>, Fail>
     requires ring { ring.now ≡ 256 }
     requires columns { All (IsCipher 256 2) columns.now }
     ensures { IfOk result (λ key. key.items ≡ columns.now) }
 {
-    Ok(forms_of(alloc, ring, set, columns)?)
+    Ok(forms_of(alloc, ring, columns)?)
 }
 
 /// Columns 8 to 15 have the powers 2^(7 k) in row 1 and else 0, so the digits of x times these add up to x.
@@ -207,7 +200,7 @@ fn digits_add_up(rt: HostRuntime) -> Result<(), Fail> {
     let columns = columns(&rt, alloc)?;
     let part = &columns[8..16];
     assert!(rt; are_ciphers(part));
-    let key = key_of(alloc, &ring, &set, part)?;
+    let key = key_of(alloc, &ring, part)?;
     let mut sum = CipherT::zero(alloc, &set, 2)?;
     let mut room = Room::new(alloc, &set)?;
     let x = polynomial(&rt, alloc, &[(0, 300), (255, Q - 1)])?;

@@ -4,6 +4,8 @@
 #[cfg(test)]
 mod ciphertexts;
 #[cfg(test)]
+mod expansion;
+#[cfg(test)]
 mod fixtures;
 #[cfg(test)]
 mod outside;

@@ -1,5 +1,5 @@
 -- The command that answers a query: a database that couldn't be read, and the frame of the reply.
-use Rattle.std.proofs.Common.{ℕ, List, IsTrue, ◌≡◌, ◌∙◌, Option, Some, None, Result, Ok, Err, IfOk, inl, inr, refl, ap, subst}
+use Rattle.std.proofs.Common.{ℕ, List, IsTrue, ◌≡◌, ◌∙◌, Option, Result, Ok, Err, IfOk, inl, inr, refl, ap, subst}
 use Rattle.pir_io.specs.Files.{FilesSeen, content_of}
 use Rattle.pir_io.specs.Sink.{SinkSeen}
 use Rattle.frame_headers.specs.declared.frame_error.FrameError.{FrameError}
@@ -8,8 +8,9 @@ use Rattle.record_store.specs.declared.storing.DbError.TheVariants as db
 use Rattle.record_store.specs.Storing.{ReadsDatabase}
 use Rattle.spiral_model.specs.Bodies.{CipherBody}
 use Rattle.spiral_model.specs.Databases.{RecordTable}
+use Rattle.spiral_model.specs.Keys.{SetKeys}
 use Rattle.spiral_model.specs.Replies.{SwitchedReply}
-use Rattle.spiral_model.specs.Answering.{ready_of, reply_of, answer_of}
+use Rattle.spiral_model.specs.Answering.{reply_of, answer_of}
 use Rattle.spiral_frames.specs.Frames.{Spell, frame_of, reply_message}
 use Rattle.spiral_frames.specs.FrameChecks.{database_refusal}
 use Rattle.pir_io.proofs.Kept.{same_content}
@@ -17,7 +18,7 @@ use Rattle.tool_base.specs.declared.status.Status.{Status}
 use Rattle.tool_base.specs.Steps.{scene, Unread, refuse_frame}
 use Rattle.tool_files.specs.Inputs.{SpellsDatabase}
 use Rattle.tool_files.specs.Refusing.{DatabaseRefused}
-use Rattle.tool_files.specs.Answer.{IsRefused, reply_frame}
+use Rattle.tool_files.specs.Answer.{IsRefused, reply_for, reply_frame}
 
 -- the first input gave no database
 pub no_database : (old new : FilesSeen) (so sn : SinkSeen) (name : List ℕ) (error : DbError) (status : Status) → ReadsDatabase old new name (Err error) → DatabaseRefused so sn error status
@@ -31,17 +32,13 @@ no_database old new so sn name (db.Frame error) status reads refused = inr (inr 
 no_database old new so sn name db.File status reads refused = inl (reads.cause, (refl, refused))
 no_database old new so sn name db.NoMemory status reads refused = inr (inl (refl, refused.0, refused.1))
 
--- the answer to a query, which comes without keys
-abbrev pub answered : RecordTable → CipherBody → SwitchedReply
-answered table query = answer_of table None (ready_of table.set None query.ciphers)
-
--- it is of the database's set
-pub answer_set : (table : RecordTable) (query : CipherBody) → (answered table query).set ≡ table.set
+-- the answer is of the database's set
+pub answer_set : (table : RecordTable) (keys : Option SetKeys) (query : CipherBody) → (reply_for table keys query).set ≡ table.set
 unfolding answer_of reply_of
-answer_set table query = refl
+answer_set table keys query = refl
 
 -- the frame that spells a reply is that of the answer which the reply is
-pub reply_spelled : {T E : Type 0} (items : T → List ℕ) (result : Result T E) (reply : SwitchedReply) (table : RecordTable) (query : CipherBody)
-    → reply ≡ answered table query → IfOk result (λ x. Spell (reply_message reply) (items x)) → IfOk result (λ x. items x ≡ reply_frame table query)
-reply_spelled items (Ok x) reply table query is spells = spells.spelled ∙ ap (λ (r : SwitchedReply). frame_of (reply_message r)) is
-reply_spelled items (Err e) reply table query is spells = tt
+pub reply_spelled : {T E : Type 0} (items : T → List ℕ) (result : Result T E) (reply : SwitchedReply) (table : RecordTable) (keys : Option SetKeys) (query : CipherBody)
+    → reply ≡ reply_for table keys query → IfOk result (λ x. Spell (reply_message reply) (items x)) → IfOk result (λ x. items x ≡ reply_frame table keys query)
+reply_spelled items (Ok x) reply table keys query is spells = spells.spelled ∙ ap (λ (r : SwitchedReply). frame_of (reply_message r)) is
+reply_spelled items (Err e) reply table keys query is spells = tt

@@ -5,7 +5,7 @@ use Rattle.spiral_model.specs.Replies.{QueryState}
 use Rattle.spiral_model.specs.Dealing.{state_of}
 use Rattle.spiral_frames.specs.Frames.{frame_of, state_message}
 use Rattle.pir_client.specs.declared.asking.Asked.{Asked}
-use Rattle.pir_client.specs.Asks.{IsAsked}
+use Rattle.pir_client.specs.Asks.{setup_frame, IsAsked}
 use Rattle.tool_base.specs.Outputs.{Output}
 use Rattle.tool_base.specs.Texts.{query_line}
 use Rattle.tool_base.specs.Words.{AskWords}
@@ -15,7 +15,7 @@ use Rattle.tool_files.specs.AskedFrames.{outputs_from}
 
 -- what `ask` does with a set and words
 abbrev pub ask_rest : AskWords → ParamSet → List ℕ → Steps
-ask_rest a set words = work_out (quiet set words a.index (write (asked_outputs a set words) (query_line a.set_name 0 (length (query_frame a set words)))))
+ask_rest a set words = work_out (quiet set words a.index (write (asked_outputs a set words) (query_line a.set_name (length (setup_frame set words)) (length (query_frame a set words)))))
 
 -- three outputs
 abbrev pub triple : (a b c p q r : List ℕ) → List Output
@@ -34,10 +34,10 @@ module _ (a : AskWords) (set : ParamSet) (words : List ℕ) (asked : Asked) (is 
   pub outputs_are : outputs_from a asked ≡ asked_outputs a set words
   outputs_are =
       three_same a.state_name a.setup_name a.query_name (frame_of (state_message asked.state)) asked.setup.items asked.query.items
-      (frame_of (state_message (state_of set words a.index))) [] (query_frame a set words)
+      (frame_of (state_message (state_of set words a.index))) (setup_frame set words) (query_frame a set words)
       (ap (λ s. frame_of (state_message s)) is.state) is.setup is.query.spelled
 
-  pub line_is : query_line a.set_name (length asked.setup.items) (length asked.query.items) ≡ query_line a.set_name 0 (length (query_frame a set words))
+  pub line_is : query_line a.set_name (length asked.setup.items) (length asked.query.items) ≡ query_line a.set_name (length (setup_frame set words)) (length (query_frame a set words))
   line_is =
       ap (λ (b : List ℕ). query_line a.set_name (length b) (length asked.query.items)) is.setup
-      ∙ ap (λ (b : List ℕ). query_line a.set_name 0 (length b)) is.query.spelled
+      ∙ ap (λ (b : List ℕ). query_line a.set_name (length (setup_frame set words)) (length b)) is.query.spelled

@@ -1,9 +1,10 @@
 -- Whether the files and the sink tell what they hold stays, whatever a command does.
-use Rattle.std.proofs.Common.{ℕ, List, ◌+◌, ◌*◌, ◌++◌, length, inl, inr}
+use Rattle.std.proofs.Common.{ℕ, List, ◌+◌, ◌*◌, ◌++◌, length, option_map, inl, inr}
 use Rattle.spiral_sets.specs.declared.param_set.ParamSet.{ParamSet}
 use Rattle.spiral_model.specs.Sets.{max_records}
 use Rattle.spiral_model.specs.Counts.{words_needed}
 use Rattle.spiral_model.specs.Noise.{dealt_report, Fits}
+use Rattle.spiral_model.specs.Keys.{keys_in}
 use Rattle.spiral_model.specs.Replies.{open_bytes}
 use Rattle.spiral_frames.specs.Frames.{frame_of, database_message}
 use Rattle.tool_base.specs.declared.status.Status.{Status}
@@ -14,7 +15,7 @@ use Rattle.tool_base.specs.Sources.{WordSource}
 use Rattle.tool_base.specs.Words.{PrepareWords, AskWords, NoiseWords, AnswerWords, OpenWords}
 use Rattle.tool_base.specs.Steps.{Scene, Steps, at_files, without_line, refuse_frame, never, work_out, either, puts, write}
 use Rattle.tool_base.proofs.Telling.{TellsStill, refuse_told, without_told, puts_told, write_told, unread_told, refused_frame_told, after_reading}
-use Rattle.tool_files.specs.Inputs.{SpellsNothing, SpellsDatabase, SpellsQuery, SpellsState, SpellsReply}
+use Rattle.tool_files.specs.Inputs.{SpellsDatabase, SpellsKeys, SpellsQuery, SpellsState, SpellsReply}
 use Rattle.tool_files.specs.RandomWords.{GivesWords}
 use Rattle.tool_files.specs.Prepare.{prepares, IsFront, table_of}
 use Rattle.tool_files.specs.WithWords.{with_words}
@@ -70,15 +71,17 @@ answer_told a s status (one_read, only1, inl unread) =
     after_reading s one_read only1 (unread_told (at_files one_read s) status s.files _ SpellsDatabase (refuse_frame 1 a.db_name IsRefused) (refused_frame_told (at_files one_read s) status _ _ IsRefused) unread)
 answer_told a s status (one_read, only1, inr (table, _, (two, only2, inl unread))) =
     after_reading s one_read only1 (after_reading (at_files one_read s) two only2
-    (unread_told (at_files two s) status one_read _ SpellsNothing (without_line BadFrame) (without_told (at_files two s) status BadFrame) unread))
-answer_told a s status (one_read, only1, inr (table, _, (two, only2, inr (_, _, (now, only, inl unread))))) =
+    (unread_told (at_files two s) status one_read _ (SpellsKeys table.set) (without_line BadFrame) (without_told (at_files two s) status BadFrame) unread))
+answer_told a s status (one_read, only1, inr (table, _, (two, only2, inr (setup, _, (now, only, inl unread))))) =
     after_reading s one_read only1 (after_reading (at_files one_read s) two only2 (after_reading (at_files two s) now only
     (unread_told (at_files now s) status two _ SpellsQuery (without_line BadFrame) (without_told (at_files now s) status BadFrame) unread)))
-answer_told a s status (one_read, only1, inr (table, _, (two, only2, inr (_, _, (now, only, inr (query, _, inl (_, refused))))))) =
+answer_told a s status (one_read, only1, inr (table, _, (two, only2, inr (setup, _, (now, only, inr (query, _, inl (_, refused))))))) =
     after_reading s one_read only1 (after_reading (at_files one_read s) two only2 (after_reading (at_files two s) now only (refuse_told (at_files now s) status _ _ refused)))
-answer_told a s status (one_read, only1, inr (table, _, (two, only2, inr (_, _, (now, only, inr (query, _, inr (_, ends))))))) =
+answer_told a s status (one_read, only1, inr (table, _, (two, only2, inr (setup, _, (now, only, inr (query, _, inr (_, inl (_, refused)))))))) =
+    after_reading s one_read only1 (after_reading (at_files one_read s) two only2 (after_reading (at_files two s) now only (refuse_told (at_files now s) status _ _ refused)))
+answer_told a s status (one_read, only1, inr (table, _, (two, only2, inr (setup, _, (now, only, inr (query, _, inr (_, inr (_, ends)))))))) =
     after_reading s one_read only1 (after_reading (at_files one_read s) two only2 (after_reading (at_files two s) now only
-    (write_told (at_files now s) status (one a.reply_name (reply_frame table query)) _ ends)))
+    (write_told (at_files now s) status (one a.reply_name (reply_frame table (option_map keys_in setup) query)) _ ends)))
 
 pub open_told : (o : OpenWords) (s : Scene) (status : Status) → opens o s status → TellsStill s
 open_told o s status (one_read, only1, inl unread) =

@@ -2,6 +2,7 @@ pub mod SourceWords
 pub mod Unread
 pub mod Asking
 pub mod Preparing
+pub mod Setups
 pub mod Answering
 pub mod CommandsTell
 pub mod GivenWords

@@ -9,5 +9,6 @@ pub mod Ask
 pub mod AskedFrames
 pub mod Noise
 pub mod SeenRows
+pub mod Given
 pub mod Answer
 pub mod Open

@@ -1,29 +1,33 @@
-ghost use Rattle.std.specs.Prelude.{◌≡◌, ◌≤◌, length, IfOk};
+ghost use Rattle.std.specs.Prelude.{◌≡◌, ◌≤◌, length, option_map, IfOk};
+ghost use Rattle.std.specs.Option.{option_copied};
 ghost use Rattle.spiral_model.specs.Sets.{IsSet, IsBuilt, name_of};
-ghost use Rattle.spiral_model.specs.Bodies.{IsQuery};
+ghost use Rattle.spiral_model.specs.Bodies.{IsSetup, IsQuery};
+ghost use Rattle.spiral_model.specs.Keys.{keys_in};
 ghost use Rattle.tool_base.specs.Outputs.{one};
 ghost use Rattle.tool_base.specs.Steps.{scene, write};
 ghost use Rattle.tool_base.specs.Texts.{reply_line};
 ghost use Rattle.tool_base.specs.Words.{answer_seen};
-ghost use Rattle.tool_files.specs.Inputs.{SpellsNothing};
+ghost use Rattle.tool_files.specs.Inputs.{SpellsNothing, SpellsSetup, SpellsKeys};
 ghost use Rattle.tool_files.specs.Reading.{ReadsMessage};
-ghost use Rattle.tool_files.specs.Answer.{answers, reply_frame as frame_of_reply};
+ghost use Rattle.tool_files.specs.Given.{IsRead, IsGiven};
+ghost use Rattle.tool_files.specs.Answer.{answers, set_of_setup as set_of_setup_for, reply_for, reply_frame as frame_of_reply};
 
 use crate::frames::read_message;
 use crate::input::InputError;
 use crate::refusals::{refuse_database, refuse_input, refuse_set};
+use modulus_switch::Reply;
 use no_memory::NoMemory;
 use pir_io::{Files, Gate, IoFault, Sink, read_front};
 use pir_server::Server;
 use pir_wire::encode_reply;
 use record_store::{Database, read_db};
-use regev_code::QueryBody;
+use regev_code::{KeyBody, QueryBody};
 use spiral_sets::ParamSet;
 use std::alloc::Global;
 use std::thread::Threads;
 use tool_base::{Answer, Output, Status, reply_text, write_and_finish};
 
-/// Answers the query in one file from the database in another, and writes the reply to a third.
+/// Answers the query in one file from the database in another, with the keys in a third, and writes the reply to a fourth.
 pub fn answer_files<R: Threads + Sync, F: Files, G: Gate, O: Sink>(
     rt: &R,
     alloc: Global,
@@ -40,20 +44,63 @@ pub fn answer_files<R: Threads + Sync, F: Files, G: Gate, O: Sink>(
         Ok(db) => db,
         Err(error) => return refuse_database(alloc, sink, error),
     };
-    if let Err(error) = read_empty(alloc, files, answer.setup) {
-        return refuse_input(sink, error);
-    }
+    let set = db.set;
+    let setup = match read_setup(alloc, files, &set, answer.setup) {
+        Ok(setup) => setup,
+        Err(error) => return refuse_input(sink, error),
+    };
     let query: QueryBody = match read_message(alloc, files, answer.query) {
         Ok(query) => query,
         Err(error) => return refuse_input(sink, error),
     };
-    let set = db.set;
+    let keys = setup.as_ref();
+    let keys_set = set_of_setup(&set, keys);
+    if !set.is(&keys_set) {
+        return refuse_set(alloc, sink, &set, &keys_set);
+    }
     if !set.is(&query.set) {
         return refuse_set(alloc, sink, &set, &query.set);
     }
-    match reply_frame(rt, alloc, db, answer.workers, &query, gate) {
+    match reply_frame(rt, alloc, db, answer.workers, keys, &query, gate) {
         Ok(frame) => write_reply(alloc, files, sink, &set, &frame, answer.reply),
         Err(NoMemory) => Status::NoMemory,
+    }
+}
+
+// Reads SETUP as one whole Setup frame.
+fn read_keys<F: Files>(alloc: Global, files: &mut F, name: &str) -> Result<KeyBody, InputError>
+    ensures reads { ReadsMessage SpellsSetup (F.seen files.old) (F.seen files.new) name.now result }
+    ensures fits { IfOk result (λ keys. IsSetup keys) }
+{
+    read_message(alloc, files, name)
+}
+
+// Reads SETUP for a database of that set: the keys where the set has keys; else it is to be empty.
+fn read_setup<F: Files>(
+    alloc: Global,
+    files: &mut F,
+    set: &ParamSet,
+    name: &str,
+) -> Result<Option<KeyBody>, InputError>
+    ensures reads { ReadsMessage (SpellsKeys set.now) (F.seen files.old) (F.seen files.new) name.now result }
+    ensures fits { IfOk result (λ setup. IsRead set.now setup) }
+{
+    if set.has_keys() {
+        let keys = read_keys(alloc, files, name)?;
+        Ok(Some(keys))
+    } else {
+        read_empty(alloc, files, name)?;
+        Ok(None)
+    }
+}
+
+// The set of the keys that were read; where there are none, the database's own.
+fn set_of_setup(set: &ParamSet, setup: Option<&KeyBody>) -> ParamSet
+    ensures { result ≡ set_of_setup_for set.now (option_copied setup.entry) }
+{
+    match setup {
+        Some(keys) => keys.set,
+        None => *set,
     }
 }
 
@@ -69,24 +116,48 @@ fn read_empty<F: Files>(alloc: Global, files: &mut F, name: &str) -> Result<(), 
     }
 }
 
-// The frame of the answer to a query of the database's set. Such a set has no keys.
+// The answer to a query of the database's set, with the keys of that set where it has some.
+fn answer_with<R: Threads + Sync, G: Gate>(
+    rt: &R,
+    server: &mut Server,
+    setup: Option<&KeyBody>,
+    query: &QueryBody,
+    gate: &G,
+) -> Result<Reply, NoMemory>
+    requires setup { IsGiven server.old.table.set (option_copied setup) }
+    requires set { query.now.set ≡ server.old.table.set }
+    requires query { IsQuery query.now }
+    ensures { IfOk result (λ reply. reply ≡ reply_for server.old.table (option_map keys_in (option_copied setup.entry)) query.now) }
+{
+    match setup {
+        Some(setup) => {
+            let keys = server.keys(setup)?;
+            server.answer(rt, Some(&keys), query, gate)
+        }
+        None => server.answer(rt, None, query, gate),
+    }
+}
+
+// The frame of that answer.
 fn reply_frame<R: Threads + Sync, G: Gate>(
     rt: &R,
     alloc: Global,
     db: Database,
     workers: u32,
+    setup: Option<&KeyBody>,
     query: &QueryBody,
     gate: &G,
 ) -> Result<Vec<u8>, NoMemory>
     requires built { IsBuilt db.set }
+    requires setup { IsGiven db.set (option_copied setup) }
     requires set { query.now.set ≡ db.set }
     requires query { IsQuery query.now }
     requires some { 1 ≤ workers }
     requires few { workers ≤ 64 }
-    ensures { IfOk result (λ bytes. bytes.items ≡ frame_of_reply db query.now) }
+    ensures { IfOk result (λ bytes. bytes.items ≡ frame_of_reply db (option_map keys_in (option_copied setup.entry)) query.now) }
 {
     let mut server = Server::new(rt, alloc, db, workers)?;
-    let reply = server.answer(rt, None, query, gate)?;
+    let reply = answer_with(rt, &mut server, setup, query, gate)?;
     encode_reply(alloc, &reply)
 }
 

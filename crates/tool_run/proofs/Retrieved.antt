@@ -5,10 +5,9 @@ use Rattle.pir_io.specs.Reading.{OnlyRead}
 use Rattle.spiral_model.specs.Databases.{RecordTable, record_at}
 use Rattle.spiral_model.specs.Replies.{QueryState, SwitchedReply, open_bytes}
 use Rattle.spiral_model.specs.Dealing.{state_of, query_body_of}
-use Rattle.spiral_frames.specs.Frames.{frame_of, reply_message}
 use Rattle.spiral_frames.proofs.SameMessages.{same_state, same_reply}
 use Rattle.noise_laws.specs.LookUps.{LookUp, reply_to}
-use Rattle.noise_laws.proofs.LookUps.{of_one_set, asked_below, reply_length, look_up_opens, state_kept, reply_kept, state_built, reply_built, plain_reply}
+use Rattle.noise_laws.proofs.LookUps.{of_one_set, asked_below, reply_length, look_up_opens, state_kept, reply_kept, state_built, reply_built}
 use Rattle.tool_base.specs.declared.status.Status.{Status}
 use Rattle.tool_base.specs.declared.status.Status.TheVariants.{BadFrame}
 use Rattle.tool_base.specs.Statuses.{number_of_status}
@@ -77,7 +76,7 @@ module _ (o : OpenWords) (table : RecordTable) (words : List ℕ) (index : ℕ) 
       kind_is = refl;
       spells = record {
         fits = (reply_built table words index hold.built, reply_kept table words index hold.look_up);
-        spelled = hold.reply ∙ ap (λ (r : SwitchedReply). frame_of (reply_message r)) (plain_reply table words index hold.built);
+        spelled = hold.reply;
       };
     }
 

@@ -3,7 +3,7 @@ use Rattle.std.specs.Prelude.{ℕ, List, IsTrue, ◌≡◌, length}
 use Rattle.pir_io.specs.Files.{FilesSeen, content_of}
 use Rattle.spiral_sets.specs.Sets.{IsBuilt}
 use Rattle.spiral_model.specs.Databases.{RecordTable, record_at}
-use Rattle.spiral_model.specs.Dealing.{state_of, query_body_of}
+use Rattle.spiral_model.specs.Dealing.{state_of, query_body_of, dealt_keys}
 use Rattle.spiral_frames.specs.Frames.{frame_of, state_message}
 use Rattle.noise_laws.specs.LookUps.{LookUp}
 use Rattle.tool_base.specs.declared.status.Status.{Status}
@@ -30,7 +30,7 @@ pub record HoldLookUp (o : OpenWords) (table : RecordTable) (words : List ℕ) (
   pub built : IsBuilt table.set
   pub tell : IsTrue files.tells
   pub state : content_of files o.state_name ≡ frame_of (state_message (state_of table.set words index))
-  pub reply : content_of files o.reply_name ≡ reply_frame table (query_body_of table.set words index)
+  pub reply : content_of files o.reply_name ≡ reply_frame table (dealt_keys table.set words) (query_body_of table.set words index)
 
 -- Run with the words of `open` on the files of a look-up, the program retrieves the record that was asked for.
 abbrev pub Retrieves : List (List ℕ) → Scene → ℕ → Type 0

@@ -1,4 +1,4 @@
-use Rattle.std.proofs.Common.{ℕ, List, [], ◌∙◌, ap, get_or, arith}
+use Rattle.std.proofs.Common.{List, [], ◌∙◌, ap, get_or, arith}
 use Rattle.spiral_sets.proofs.SetBounds.{degree-most}
 use Rattle.spiral_model.specs.Words.{Cipher, Gsw}
 use Rattle.spiral_model.specs.Answering.{Ready}

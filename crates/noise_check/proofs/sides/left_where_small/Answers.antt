@@ -1,4 +1,4 @@
-use Rattle.std.proofs.Common.{◌≡◌, ◌<◌, ◌≤◌, ap, sym, ◌∙◌, Some, arith}
+use Rattle.std.proofs.Common.{◌<◌, ◌≤◌, ap, ◌∙◌, Some, arith}
 use Rattle.spiral_sets.specs.Sets.{q}
 use Rattle.ring_poly.proofs.Modulus.{q_is}
 use Rattle.spiral_model.specs.Noise.{NoiseRow}

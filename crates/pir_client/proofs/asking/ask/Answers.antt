@@ -1,9 +1,15 @@
 use Rattle.std.proofs.Common.{◌≡◌, refl, arith}
+use Rattle.std.specs.Option.{option_copied}
 use Rattle.spiral_sets.proofs.SetBounds.{n-most}
 use Rattle.spiral_model.specs.Noise.{dealt_report, Fits}
 use Rattle.noise_check.proofs.FittingRows.{length-report, report_fits}
-use Rattle.pir_client.proofs.QueryShapes.{length-dealt, first-miss, dealt-sendable, asked-is, asked-front}
+use Rattle.pir_client.specs.Asks.{setup_frame}
+use Rattle.pir_client.proofs.SetNumbers.{built-plain}
+use Rattle.pir_client.proofs.QueryShapes.{length-dealt, first-miss, dealt-sendable, keys-sendable, keys-framed, asked-is, asked-front}
 use Rattle.pir_client.proofs.asking.ask.Goals as goal
+
+pub deal-requires-clause-plain : goal.deal-requires-clause-plain
+deal-requires-clause-plain c = built-plain c.args.set.now c.requires.built
 
 pub first_miss-requires : goal.first_miss-requires
 first_miss-requires c =
@@ -22,20 +28,29 @@ returns-in-Some-clause-asks c = (
       c.in_ok-dealt.ensures.report c.in-Some.ensures c.index-row.ensures,
 )
 
+pub setup_bytes-requires : goal.setup_bytes-requires
+setup_bytes-requires c =
+    keys-sendable c.args.set.now c.args.index c.args.words.now c.in_ok-dealt.dealt (option_copied c.as_ref.result) c.requires.built c.in_ok-dealt.ensures c.as_ref.ensures.value
+
 pub encode_query-requires : goal.encode_query-requires
 encode_query-requires c = dealt-sendable c.args.set.now c.args.index c.args.words.now c.in_ok-dealt.dealt c.requires.built c.in_ok-dealt.ensures
 
 pub returns-clause-asks : goal.returns-clause-asks
 returns-clause-asks c =
-    let fits : Fits c.args.set.now c.args.words.now c.args.index =
-    (report_fits c.args.set.now (dealt_report c.args.set.now c.args.words.now c.args.index) c.in_ok-dealt.dealt.report c.requires.known c.in_ok-dealt.ensures.report).0 c.in_default.ensures in (
-      c.in_ok-check_words.ensures,
-      asked-is c.args.set.now c.args.index c.args.words.now c.in_ok-dealt.dealt _ c.in_ok-dealt.ensures refl c.new.ensures.items c.in_ok-encode_query.ensures refl fits,
-    )
+    let set = c.args.set.now in
+    let words = c.args.words.now in
+    let fits : Fits set words c.args.index =
+    (report_fits set (dealt_report set words c.args.index) c.in_ok-dealt.dealt.report c.requires.known c.in_ok-dealt.ensures.report).0 c.in_default.ensures in
+    let framed : c.in_ok-setup.setup.items ≡ setup_frame set words =
+    keys-framed set c.args.index words c.in_ok-dealt.dealt (option_copied c.as_ref.result) c.in_ok-setup.setup.items c.in_ok-dealt.ensures c.as_ref.ensures.value c.in_ok-setup.ensures in
+    (c.in_ok-check_words.ensures, asked-is set c.args.index words c.in_ok-dealt.dealt _ c.in_ok-dealt.ensures refl framed c.in_ok-query.ensures refl fits)
 
 pub returns-clause-front : goal.returns-clause-front
 returns-clause-front c =
-    let fits : Fits c.args.set.now c.args.words.now c.args.index =
-    (report_fits c.args.set.now (dealt_report c.args.set.now c.args.words.now c.args.index) c.in_ok-dealt.dealt.report c.requires.known c.in_ok-dealt.ensures.report).0 c.in_default.ensures in
-    asked-front c.args.set.now c.args.index c.args.words.now _ c.requires.known c.requires.built
-    (asked-is c.args.set.now c.args.index c.args.words.now c.in_ok-dealt.dealt _ c.in_ok-dealt.ensures refl c.new.ensures.items c.in_ok-encode_query.ensures refl fits)
+    let set = c.args.set.now in
+    let words = c.args.words.now in
+    let fits : Fits set words c.args.index =
+    (report_fits set (dealt_report set words c.args.index) c.in_ok-dealt.dealt.report c.requires.known c.in_ok-dealt.ensures.report).0 c.in_default.ensures in
+    let framed : c.in_ok-setup.setup.items ≡ setup_frame set words =
+    keys-framed set c.args.index words c.in_ok-dealt.dealt (option_copied c.as_ref.result) c.in_ok-setup.setup.items c.in_ok-dealt.ensures c.as_ref.ensures.value c.in_ok-setup.ensures in
+    asked-front set c.args.index words _ c.requires.known (asked-is set c.args.index words c.in_ok-dealt.dealt _ c.in_ok-dealt.ensures refl framed c.in_ok-query.ensures refl fits)

@@ -1,27 +1,21 @@
-use Rattle.std.proofs.Common.{◌≡◌, ◌∙◌, ℕ, List, take, ap}
+use Rattle.std.proofs.Common.{List, [], ◌∙◌, ap, arith}
+use Rattle.std.specs.Option.{option_copied}
+use Rattle.std.proofs.lemmas.List.{get_or_read}
 use Rattle.spiral_model.specs.Bodies.{CipherBody}
-use Rattle.spiral_model.specs.Words.{Cipher}
-use Rattle.spiral_model.specs.Answering.{firsts_of, gsws_of}
-use Rattle.query_expand.proofs.Cuts.{IsCut, query-is_cut, ready-is, ready-shape}
+use Rattle.spiral_model.specs.Words.{Cipher, cipher_at}
+use Rattle.query_expand.proofs.Cuts.{query-is_one, ready-sent, ready-expanded}
 use Rattle.query_expand.proofs.made_ready.ready.Goals as goal
 
-cut : (c : goal.In_ok-sent_gsws) → IsCut c.args.set.now c.args.query.now.ciphers
-cut c = query-is_cut c.args.set.now c.args.query.now c.requires.set c.requires.built c.requires.query
+pub returns-in_ok-ready_sent-clause-value : goal.returns-in_ok-ready_sent-clause-value
+returns-in_ok-ready_sent-clause-value c =
+    ready-sent c.args.set.now _ c.deref.result.now c.args.query.now.ciphers _ c.if-set.true (c.deref.ensures.value ∙ ap (λ (q : CipherBody). q.ciphers) c.query.view_is)
+    c.in_ok-ready_sent.ensures.value
 
-front : (c : goal.In_ok-sent_gsws) → c.in_ok-forms_of.field-0.items ≡ firsts_of c.args.set.now c.args.query.now.ciphers
-front c =
-    let sent = c.deref.ensures.value ∙ ap (λ (q : CipherBody). q.ciphers) c.query.view_is in
-    c.in_ok-forms_of.ensures ∙ ap (λ (n : ℕ). take n c.deref.result.now) c.firsts_count-firsts.ensures.value ∙ ap (λ (xs : List Cipher). firsts_of c.args.set.now xs) sent
-
-rest : (c : goal.In_ok-sent_gsws) → c.in_ok-sent_gsws.field-0.items ≡ gsws_of c.args.set.now c.args.query.now.ciphers
-rest c =
-    let sent = c.deref-2.ensures.value ∙ ap (λ (q : CipherBody). q.ciphers) c.query.view_is in
-    c.in_ok-sent_gsws.ensures.value ∙ ap (λ (xs : List Cipher). gsws_of c.args.set.now xs) sent
-
-pub returns-clause-value : goal.returns-clause-value
-returns-clause-value c =
-    ready-is c.args.set.now c.args.query.now.ciphers c.in_ok-forms_of.field-0.items c.in_ok-sent_gsws.field-0.items c.requires.built.0 (front c) (rest c) _
-
-pub returns-clause-shape : goal.returns-clause-shape
-returns-clause-shape c =
-    ready-shape c.args.set.now c.args.query.now.ciphers c.in_ok-forms_of.field-0.items c.in_ok-sent_gsws.field-0.items (cut c) (front c) (rest c) c.in_ok-sent_gsws.ensures.shapes
+pub returns-in_ok-ready_expanded-in-Some-clause-value : goal.returns-in_ok-ready_expanded-in-Some-clause-value
+returns-in_ok-ready_expanded-in-Some-clause-value c =
+    let sent = ap (λ (q : CipherBody). q.ciphers) c.query.view_is in
+    let one = query-is_one c.args.set.now c.args.query.now c.query.inside.ciphers.items c.requires.set c.if-set.false c.requires.query sent in
+    let count = one.count in
+    ready-expanded c.args.set.now c.in-Some.keys.now _ c.args.query.now.ciphers c.index-c.result.now _ c.if-set.false (ap option_copied c.in-Some.is)
+    (get_or_read c.query.inside.ciphers.items 0 c.index-c.result.now (omega (arith, count)) c.index-c.ensures [] ∙ ap (λ (cs : List Cipher). cipher_at cs 0) sent)
+    c.in_ok-ready_expanded-in-Some.ensures.value

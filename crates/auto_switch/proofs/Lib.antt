@@ -1,0 +1,4 @@
+pub mod Multiples
+pub mod Appended
+pub mod AutoMessages
+pub mod Applied

@@ -1,0 +1,7 @@
+pub mod SetNumbers
+pub mod Counted
+pub mod Shapes
+pub mod RoundKeys
+pub mod LiftMessages
+pub mod Conversions
+pub mod WholeKeys

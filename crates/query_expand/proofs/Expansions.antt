@@ -1,0 +1,164 @@
+-- The parts of an expanded query: lifts of the left side, translations of the right one.
+use Rattle.std.proofs.Common.{◌≡◌, ℕ, ◌+◌, ◌*◌, ◌^◌, ◌<◌, ◌≤◌, Bool, false, if◌then◌else◌, List, [], ◌∷◌, ◌++◌, length, get_or, take, drop, map, All, refl, sym, ◌∙◌, ap, ap₂, subst, arith, append-nil, length-append, take_all}
+use Rattle.std.specs.List.{range_with_len, flat_map}
+use Rattle.std.proofs.lemmas.List.{take_more}
+use Rattle.std.proofs.lemmas.List.Concat.{flat_map-append}
+use Rattle.std.proofs.lemmas.List.Elements.{All-nil, All-append, All-push, All-same}
+use Rattle.std.proofs.lemmas.List.FromFn.{length-map-range_with_len}
+use Rattle.negacyclic.proofs.Lists.{pushed_more}
+use Rattle.spiral_sets.specs.declared.param_set.ParamSet.{ParamSet}
+use Rattle.spiral_sets.specs.Sets.{digit_count, rows}
+use Rattle.spiral_model.specs.Words.{Cipher, Gsw, cipher_at}
+use Rattle.spiral_model.specs.KeySwitching.{DigitKey}
+use Rattle.spiral_model.specs.Keys.{SetKeys}
+use Rattle.spiral_model.specs.Expansion.{expanded, sides, left_side, right_side}
+use Rattle.spiral_model.specs.Packing.{lift_matrix, translated}
+use Rattle.spiral_model.specs.Answering.{Ready, expanded_firsts, expanded_gsw, expanded_gsws}
+use Rattle.regev_code.specs.Products.{HasShape}
+use Rattle.gsw_code.specs.Products.{IsGsw, IsReady}
+use Rattle.spiral_pack.proofs.Lifts.{length-lift_matrix}
+use Rattle.query_expand.specs.Parts.{translated_part}
+
+-- ---- the lifts of one ciphertext after the other
+
+-- the pieces of one element more
+pub flat_map-take : {X A : Type 0} (f : X → List A) (xs : List X) (i : ℕ) (x : X) → i < length xs → x ≡ get_or xs i x
+    → flat_map f (take (i + 1) xs) ≡ flat_map f (take i xs) ++ f x
+flat_map-take {X} f xs i x h is =
+    ap (flat_map f) (take_more xs i x h ∙ ap (λ (y : X). take i xs ++ y ∷ []) (sym is))
+    ∙ flat_map-append f (take i xs) (x ∷ [])
+    ∙ ap (λ ys. flat_map f (take i xs) ++ ys) (append-nil (f x))
+
+-- What the loop over the ciphertexts keeps.
+pub record LiftsEach (N : ℕ) (set : ParamSet) (keys : SetKeys) (ciphers : List Cipher) (i : ℕ) (firsts : List Cipher) (scratch : ParamSet) : Type 0 where
+  pub so_far : firsts ≡ flat_map (lift_matrix set keys.lift) (take i ciphers)
+  pub shapes : All (HasShape N (set.n + 1)) firsts
+  pub kept : scratch ≡ set
+
+pub lifts_each-none : (N : ℕ) (set : ParamSet) (keys : SetKeys) (ciphers firsts : List Cipher) → firsts ≡ [] → LiftsEach N set keys ciphers 0 firsts set
+lifts_each-none N set keys ciphers firsts none = record {
+  so_far = none;
+  shapes = All-same (HasShape N (set.n + 1)) firsts [] none (All-nil (HasShape N (set.n + 1)));
+  kept = refl;
+}
+
+pub lifts_each-more : (N : ℕ) (set : ParamSet) (keys : SetKeys) (ciphers : List Cipher) (i : ℕ) (firsts new columns : List Cipher) (c : Cipher) (scratch after : ParamSet)
+    → LiftsEach N set keys ciphers i firsts scratch → i < length ciphers → c ≡ get_or ciphers i c → columns ≡ lift_matrix scratch keys.lift c
+    → All (HasShape N (scratch.n + 1)) columns → after ≡ scratch → new ≡ firsts ++ columns → LiftsEach N set keys ciphers (i + 1) new after
+lifts_each-more N set keys ciphers i firsts new columns c scratch after lifts h is worked shapes kept appended = record {
+  so_far =
+      appended
+      ∙ ap₂ (λ (xs ys : List Cipher). xs ++ ys) lifts.so_far (worked ∙ ap (λ (s : ParamSet). lift_matrix s keys.lift c) lifts.kept)
+      ∙ sym (flat_map-take (lift_matrix set keys.lift) ciphers i c h is);
+  shapes =
+      All-same (HasShape N (set.n + 1)) new (firsts ++ columns) appended
+      (All-append (HasShape N (set.n + 1)) firsts columns lifts.shapes (subst (λ (s : ParamSet). All (HasShape N (s.n + 1)) columns) lifts.kept shapes));
+  kept = kept ∙ lifts.kept;
+}
+
+pub lifts_each-all : (N : ℕ) (set : ParamSet) (keys : SetKeys) (ciphers : List Cipher) (i : ℕ) (firsts : List Cipher) (scratch : ParamSet) → length ciphers ≤ i
+    → LiftsEach N set keys ciphers i firsts scratch → firsts ≡ flat_map (lift_matrix set keys.lift) ciphers
+lifts_each-all N set keys ciphers i firsts scratch past lifts =
+    lifts.so_far ∙ ap (flat_map (lift_matrix set keys.lift)) (take_all i ciphers past)
+
+-- how many they are
+length-lifts : (set : ParamSet) (lift : List DigitKey) (ciphers : List Cipher) → length (flat_map (lift_matrix set lift) ciphers) ≡ length ciphers * set.n
+length-lifts set lift [] = omega arith
+length-lifts set lift (c ∷ ciphers) =
+    let front = length-lift_matrix set lift c in
+    let rest = length-lifts set lift ciphers in
+    length-append (lift_matrix set lift c) (flat_map (lift_matrix set lift) ciphers) ∙ omega (arith, front, rest)
+
+pub lifts-many : (set : ParamSet) (lift : List DigitKey) (ciphers firsts : List Cipher) (count : ℕ) → length ciphers ≡ count
+    → firsts ≡ flat_map (lift_matrix set lift) ciphers → length firsts ≡ count * set.n
+lifts-many set lift ciphers firsts count many worked =
+    ap length worked ∙ length-lifts set lift ciphers ∙ ap (λ (k : ℕ). k * set.n) many
+
+-- the lifts of the left side
+pub firsts-worked : (set after : ParamSet) (lift : List DigitKey) (left lent firsts : List Cipher) → after ≡ set → lent ≡ left → firsts ≡ flat_map (lift_matrix after lift) lent
+    → firsts ≡ flat_map (lift_matrix set lift) left
+firsts-worked set after lift left lent firsts kept shown worked =
+    worked ∙ ap (λ (s : ParamSet). flat_map (lift_matrix s lift) lent) kept ∙ ap (flat_map (lift_matrix set lift)) shown
+
+-- round 0
+pub sides-are : (N : ℕ) (keys : SetKeys) (c : Cipher) (lent : List DigitKey) (both : List Cipher) → lent ≡ keys.round0 → both ≡ expanded N 0 lent (c ∷ []) → both ≡ sides N keys c
+unfolding sides
+sides-are N keys c lent both same worked = worked ∙ ap (λ (ks : List DigitKey). expanded N 0 ks (c ∷ [])) same
+
+-- ---- the selections, one after the other
+
+-- the GSW ciphertext of selection l
+pub part_is : (set : ParamSet) (keys : SetKeys) (ciphers bits : List Cipher) (l start len digits : ℕ) (columns gsw : Gsw) → digits ≡ digit_count set.w_gsw → start ≡ l * digits
+    → len ≡ digits → bits ≡ take len (drop start ciphers) → columns ≡ translated set keys bits → gsw ≡ columns → gsw ≡ translated_part set keys ciphers l
+part_is set keys ciphers bits l start len digits columns gsw count place size cut worked same =
+    same ∙ worked
+    ∙ ap (translated set keys) (cut ∙ ap (λ (n : ℕ). take n (drop start ciphers)) size ∙ ap (λ (p : ℕ). take digits (drop p ciphers)) place)
+    ∙ ap (λ (t : ℕ). translated set keys (take t (drop (l * t) ciphers))) count
+
+-- What the loop over the selections keeps.
+pub record TranslatesEach (set : ParamSet) (keys : SetKeys) (ciphers : List Cipher) (l : ℕ) (gsws : List Gsw) (scratch : ParamSet) : Type 0 where
+  pub so_far : gsws ≡ map (translated_part set keys ciphers) (range_with_len 0 l)
+  pub shapes : All (IsGsw set) gsws
+  pub kept : scratch ≡ set
+
+pub translates_each-none : (set : ParamSet) (keys : SetKeys) (ciphers : List Cipher) (gsws : List Gsw) (scratch : ParamSet) → gsws ≡ [] → scratch ≡ set
+    → TranslatesEach set keys ciphers 0 gsws scratch
+translates_each-none set keys ciphers gsws scratch none kept = record {
+  so_far = none;
+  shapes = All-same (IsGsw set) gsws [] none (All-nil (IsGsw set));
+  kept = kept;
+}
+
+pub translates_each-more : (set : ParamSet) (keys : SetKeys) (ciphers : List Cipher) (l : ℕ) (gsws new : List Gsw) (gsw : Gsw) (scratch after : ParamSet)
+    → TranslatesEach set keys ciphers l gsws scratch → gsw ≡ translated_part set keys ciphers l → IsGsw set gsw → after ≡ scratch → new ≡ gsws ++ gsw ∷ []
+    → TranslatesEach set keys ciphers (l + 1) new after
+translates_each-more set keys ciphers l gsws new gsw scratch after each worked shape kept pushed = record {
+  so_far = pushed_more (translated_part set keys ciphers) 0 l l gsws new gsw (omega arith) each.so_far pushed worked;
+  shapes = All-same (IsGsw set) new (gsws ++ gsw ∷ []) pushed (All-push (IsGsw set) gsws gsw each.shapes shape);
+  kept = kept ∙ each.kept;
+}
+
+pub translates_each-all : (set : ParamSet) (keys : SetKeys) (ciphers : List Cipher) (l : ℕ) (gsws : List Gsw) (scratch : ParamSet) → l ≡ set.nu2
+    → TranslatesEach set keys ciphers l gsws scratch → gsws ≡ map (translated_part set keys ciphers) (range_with_len 0 set.nu2)
+translates_each-all set keys ciphers l gsws scratch all each =
+    each.so_far ∙ ap (λ (n : ℕ). map (translated_part set keys ciphers) (range_with_len 0 n)) all
+
+-- ---- both parts
+
+-- the first dimension of a set that doesn't pack, from the two sides
+firsts_are : (N : ℕ) (set : ParamSet) (keys : SetKeys) (c : Cipher) (both firsts : List Cipher) → set.pack ≡ false → N ≡ set.degree → both ≡ sides N keys c
+    → firsts ≡ flat_map (lift_matrix set keys.lift) (expanded N 1 keys.left (cipher_at both 0 ∷ [])) → firsts ≡ expanded_firsts set keys c
+unfolding expanded_firsts left_side
+firsts_are N set keys c both firsts plain degree two worked =
+    let lifts : List Cipher → List Cipher = flat_map (lift_matrix set keys.lift) in
+    worked
+    ∙ ap (λ (cs : List Cipher). lifts (expanded N 1 keys.left (cipher_at cs 0 ∷ []))) two
+    ∙ ap (λ (n : ℕ). lifts (expanded n 1 keys.left (cipher_at (sides n keys c) 0 ∷ []))) degree
+    ∙ sym (ap (λ (b : Bool). if b then left_side set.degree keys c else lifts (left_side set.degree keys c)) plain)
+
+-- the selections
+gsws_are : (N : ℕ) (set : ParamSet) (keys : SetKeys) (c : Cipher) (both : List Cipher) (gsws : List Gsw) → N ≡ set.degree → both ≡ sides N keys c
+    → gsws ≡ map (translated_part set keys (expanded N 1 keys.right (cipher_at both 1 ∷ []))) (range_with_len 0 set.nu2) → gsws ≡ expanded_gsws set keys c
+unfolding expanded_gsws expanded_gsw right_side
+gsws_are N set keys c both gsws degree two worked =
+    let parts : List Cipher → List Gsw = λ cs. map (translated_part set keys cs) (range_with_len 0 set.nu2) in
+    worked
+    ∙ ap (λ (cs : List Cipher). parts (expanded N 1 keys.right (cipher_at cs 1 ∷ []))) two
+    ∙ ap (λ (n : ℕ). parts (expanded n 1 keys.right (cipher_at (sides n keys c) 1 ∷ []))) degree
+
+abbrev of_parts : List Cipher → List Gsw → Ready
+of_parts firsts gsws = record { firsts = firsts; gsws = gsws }
+
+-- a query's one ciphertext, expanded
+pub expanded-is : (N : ℕ) (set after : ParamSet) (keys : SetKeys) (c first second : Cipher) (both firsts : List Cipher) (gsws : List Gsw) → set.pack ≡ false → N ≡ set.degree
+    → after ≡ set → both ≡ sides N keys c → first ≡ cipher_at both 0 → second ≡ cipher_at both 1
+    → firsts ≡ flat_map (lift_matrix after keys.lift) (expanded N 1 keys.left (first ∷ []))
+    → gsws ≡ map (translated_part set keys (expanded N 1 keys.right (second ∷ []))) (range_with_len 0 set.nu2)
+    → record { firsts = firsts; gsws = gsws } ≡ of_parts (expanded_firsts set keys c) (expanded_gsws set keys c)
+expanded-is N set after keys c first second both firsts gsws plain degree kept two first_is second_is first_worked rest_worked =
+    ap₂ of_parts
+    (firsts_are N set keys c both firsts plain degree two
+    (first_worked ∙ ap (λ (s : ParamSet). flat_map (lift_matrix s keys.lift) (expanded N 1 keys.left (first ∷ []))) kept
+    ∙ ap (λ (d : Cipher). flat_map (lift_matrix set keys.lift) (expanded N 1 keys.left (d ∷ []))) first_is))
+    (gsws_are N set keys c both gsws degree two
+    (rest_worked ∙ ap (λ (d : Cipher). map (translated_part set keys (expanded N 1 keys.right (d ∷ []))) (range_with_len 0 set.nu2)) second_is))

@@ -1,0 +1,14 @@
+use Rattle.std.proofs.Common.{◌≡◌, All}
+use Rattle.negacyclic.proofs.Filled.{Filled}
+use Rattle.spiral_model.specs.Words.{cipher_at}
+use Rattle.spiral_model.specs.Expansion.{even_half}
+use Rattle.regev_code.specs.Products.{HasShape}
+use Rattle.query_expand.proofs.expansion.keep_even_halves.Given as goal
+
+abbrev pub invariant-loop-x : goal.invariant-loop-x
+invariant-loop-x l = record {
+  so_far : Filled (λ k. even_half l.ring l.round l.key (cipher_at l.fn.ciphers k)) l.fn.ciphers l.x l.ciphers;
+  shapes : All (HasShape l.ring 2) l.ciphers;
+  image : HasShape l.ring 2 l.image;
+  kept : l.scratch ≡ l.fn.scratch;
+}

@@ -1,0 +1,71 @@
+-- The lifts of a scalar ciphertext, one row after the other.
+use Rattle.std.proofs.Common.{◌≡◌, ℕ, ◌+◌, ◌-◌, List, [], ◌∷◌, ◌++◌, length, replicate, map, All, refl, sym, ◌∙◌, ap, subst, arith}
+use Rattle.std.specs.List.{range_with_len}
+use Rattle.std.proofs.lemmas.List.Elements.{All-nil, All-push, All-same}
+use Rattle.std.proofs.lemmas.List.FromFn.{length-map-range_with_len}
+use Rattle.negacyclic.proofs.Lists.{pushed_more}
+use Rattle.spiral_sets.specs.declared.param_set.ParamSet.{ParamSet}
+use Rattle.spiral_model.specs.Words.{Cipher}
+use Rattle.spiral_model.specs.KeySwitching.{DigitKey, lifted}
+use Rattle.spiral_model.specs.Keys.{SetKeys, key_at}
+use Rattle.spiral_model.specs.Packing.{lift_row, lift_matrix}
+use Rattle.regev_code.specs.Products.{HasShape}
+use Rattle.regev_code.proofs.Products.{zeros_shape}
+
+-- ---- one row
+
+-- what `lifted` gives with the key of row r, where the degree and the key are known by an equation
+pub lifted_is : (set : ParamSet) (N r : ℕ) (lift : List DigitKey) (key : DigitKey) (c out : Cipher) → N ≡ set.degree → key ≡ key_at lift (r - 1)
+    → out ≡ lifted N set.n r key c → out ≡ lift_row set lift c r
+unfolding lift_row
+lifted_is set N r lift key c out degree is worked =
+    worked ∙ ap (λ (n : ℕ). lifted n set.n r key c) degree ∙ ap (λ (k : DigitKey). lifted set.degree set.n r k c) is
+
+-- ---- all rows
+
+-- What the loop over the rows keeps: the lifts into the first rows, room for one more, and the set of the scratch.
+pub record Lifts (N : ℕ) (set : ParamSet) (keys : SetKeys) (c : Cipher) (i : ℕ) (columns : List Cipher) (room : Cipher) (scratch : ParamSet) : Type 0 where
+  pub so_far : columns ≡ map (lift_row set keys.lift c) (range_with_len 1 i)
+  pub shapes : All (HasShape N (set.n + 1)) columns
+  pub room_shape : HasShape N (set.n + 1) room
+  pub kept : scratch ≡ set
+
+-- none so far
+pub lifts_none : (N : ℕ) (set seen : ParamSet) (keys : SetKeys) (c room : Cipher) (columns : List Cipher) → N ≡ set.degree → seen ≡ set → columns ≡ []
+    → room ≡ replicate (seen.n + 1) (replicate {A = ℕ} seen.degree 0) → Lifts N set keys c 0 columns room set
+lifts_none N set seen keys c room columns degree same none zeros = record {
+  so_far = none;
+  shapes = All-same (HasShape N (set.n + 1)) columns [] none (All-nil (HasShape N (set.n + 1)));
+  room_shape =
+      subst (λ (n : ℕ). HasShape n (set.n + 1) room) (sym degree)
+      (subst (λ (s : ParamSet). HasShape s.degree (s.n + 1) room) same (zeros_shape seen.degree (seen.n + 1) room zeros));
+  kept = refl;
+}
+
+-- one more
+pub lifts_more : (N : ℕ) (set : ParamSet) (keys : SetKeys) (c : Cipher) (i : ℕ) (columns new : List Cipher) (room next column : Cipher) (scratch after : ParamSet)
+    → Lifts N set keys c i columns room scratch → next ≡ lift_row scratch keys.lift c (i + 1) → HasShape N (scratch.n + 1) next → after ≡ scratch
+    → column ≡ next → new ≡ columns ++ column ∷ [] → Lifts N set keys c (i + 1) new next after
+lifts_more N set keys c i columns new room next column scratch after lifts worked shape kept form pushed =
+    let here : HasShape N (set.n + 1) next = subst (λ (s : ParamSet). HasShape N (s.n + 1) next) lifts.kept shape in
+    record {
+      so_far =
+          pushed_more (lift_row set keys.lift c) 1 i (i + 1) columns new column (omega arith) lifts.so_far pushed
+          (form ∙ worked ∙ ap (λ (s : ParamSet). lift_row s keys.lift c (i + 1)) lifts.kept);
+      shapes =
+          All-same (HasShape N (set.n + 1)) new (columns ++ column ∷ []) pushed
+          (All-push (HasShape N (set.n + 1)) columns column lifts.shapes (subst (HasShape N (set.n + 1)) (sym form) here));
+      room_shape = here;
+      kept = kept ∙ lifts.kept;
+    }
+
+-- all of them
+pub lifts_all : (set : ParamSet) (lift : List DigitKey) (c : Cipher) (n : ℕ) (columns : List Cipher) → n ≡ set.n
+    → columns ≡ map (lift_row set lift c) (range_with_len 1 n) → columns ≡ lift_matrix set lift c
+unfolding lift_matrix
+lifts_all set lift c n columns all so_far = so_far ∙ ap (λ (k : ℕ). map (lift_row set lift c) (range_with_len 1 k)) all
+
+-- how many they are
+pub length-lift_matrix : (set : ParamSet) (lift : List DigitKey) (c : Cipher) → length (lift_matrix set lift c) ≡ set.n
+unfolding lift_matrix
+length-lift_matrix set lift c = length-map-range_with_len (lift_row set lift c) 1 set.n
