@@ -54,7 +54,7 @@ expect "noise with a word too many" 2 "usage" noise edge-256 0 words:words more
 expect "noise of an unknown set" 3 "unknown set" noise nosuch 0 words:words
 
 expect "an unknown set" 3 "unknown set" ask nosuch 0 words:w a b c
-expect "a set that isn't handled" 3 "unknown set" ask tiny-pack 0 words:w a b c
+expect "a set's name with a capital" 3 "unknown set" ask tiny-spiraI 0 words:w a b c
 expect "a leading zero" 2 "usage" ask edge-256 00 words:w a b c
 expect "a sign" 2 "usage" ask edge-256 +1 words:w a b c
 expect "an index past its range" 2 "usage" ask edge-256 4294967296 words:w a b c

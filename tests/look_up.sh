@@ -16,7 +16,7 @@ expect "records of no byte" 13 "bad records: code 8, length 0, number 1024" prep
 expect "no record" 0 "database edge-256 0 records of 4 bytes" prepare edge-256 4 empty none
 is "the frame of no record" "${front}100000000000000000000000000000000400000000000000" "$(hex none)"
 expect "a set that isn't known" 3 "unknown set" prepare nosuch 4 eight no
-expect "a set that isn't handled" 3 "unknown set" prepare tiny-pack 4 eight no
+expect "a set's name with a capital" 3 "unknown set" prepare tiny-spiraI 4 eight no
 expect "a length past its range" 2 "usage" prepare edge-256 4294967296 eight no
 expect "a length with a leading zero" 2 "usage" prepare edge-256 04 eight no
 expect "no input" 7 "file fault" prepare edge-256 4 missing no; absent "no input" no
@@ -131,6 +131,48 @@ expect "its answer" 0 "reply spiral-2048 22570 bytes" answer long_db long_keys l
 head -c 8192 /dev/zero | tr '\0' '\054' > wanted_300
 expect "record 300" 0 "record 8192 bytes" open long_state long_reply record_300; same "record 300" record_300 wanted_300
 
+# ---- look-ups on the sets that pack: one scalar ciphertext for each entry of the result, which the server packs with the lift keys in SETUP
+
+head -c 4096 /dev/zero | tr '\0' '\252' > all_aa
+expect "records of aa" 0 "database tiny-pack 16 records of 256 bytes" prepare tiny-pack 256 all_aa pack_db
+expect "a query to pack" 0 "query tiny-pack setup 1605656 bytes query 3608 bytes" ask tiny-pack 3 seed:seed pack_state pack_keys pack_query
+for workers in 1 2 3 64; do
+  expect "a packed answer by $workers workers" 0 "reply tiny-pack 1832 bytes" answer pack_db pack_keys pack_query "pack_reply$workers" "$workers"
+  same "the same packed answer by $workers workers" "pack_reply$workers" pack_reply1
+done
+head -c 256 all_aa > wanted_aa
+expect "a packed record" 0 "record 256 bytes" open pack_state pack_reply1 record_aa; same "a packed record" record_aa wanted_aa
+# Rows and columns differ here: each byte of a record is another.
+for ((k = 0; k < 16; k++)); do for ((b = 0; b < 256; b++)); do printf '%02x' $(((7 * k + b * (2 * k + 1)) % 256)); done; done > sixteen_hex
+bytes "$(cat sixteen_hex)" > sixteen_kinds
+expect "records of many bytes" 0 "database tiny-pack 16 records of 256 bytes" prepare tiny-pack 256 sixteen_kinds kinds_db
+for k in 0 9 15; do
+  expect "a query for record $k" 0 "query tiny-pack setup 1605656 bytes query 3608 bytes" ask tiny-pack $k seed:seed kinds_state kinds_keys kinds_query
+  expect "an answer with record $k" 0 "reply tiny-pack 1832 bytes" answer kinds_db kinds_keys kinds_query kinds_reply 1
+  tail -c +$((256 * k + 1)) sixteen_kinds | head -c 256 > wanted_k
+  expect "packed record $k" 0 "record 256 bytes" open kinds_state kinds_reply record_k; same "packed record $k" record_k wanted_k
+done
+for ((k = 0; k < 8; k++)); do head -c 1024 /dev/zero | tr '\0' "\\$(printf %03o $k)"; done > eight_long
+expect "eight long records" 0 "database tiny-streampack 8 records of 1024 bytes" prepare tiny-streampack 1024 eight_long sent_db
+expect "a query that is sent whole and packed" 0 "query tiny-streampack setup 86046 bytes query 71710 bytes" ask tiny-streampack 6 seed:seed sent_state sent_keys sent_query
+expect "its packed answer" 0 "reply tiny-streampack 2862 bytes" answer sent_db sent_keys sent_query sent_reply 3
+head -c 1024 /dev/zero | tr '\0' '\006' > wanted_6
+expect "its packed record" 0 "record 1024 bytes" open sent_state sent_reply record_6; same "its packed record" record_6 wanted_6
+expect "a set that sends its query needs its lift keys" 9 "" answer sent_db empty sent_query no 1
+expect "keys of another packing set" 10 "wrong set: expected tiny-streampack, found tiny-pack" answer sent_db pack_keys sent_query no 1
+
+# ---- look-ups on the large sets that pack: the last of three records, and one of them
+
+for set in "pack-2048 32768 8716312 28696 65576" "streampack-2048 49152 2293790 3211294 88110"; do
+  read -r name length setup_bytes query_bytes reply_bytes <<< "$set"
+  for k in 1 2 3; do head -c $((length - 1)) /dev/zero | tr '\0' "\\$k"; bytes "f$k"; done > three_wide
+  expect "three records of $name" 0 "database $name 3 records of $length bytes" prepare "$name" "$length" three_wide wide_db
+  expect "a query of $name" 0 "query $name setup $setup_bytes bytes query $query_bytes bytes" ask "$name" 2 seed:seed wide_state wide_keys wide_query
+  expect "an answer of $name" 0 "reply $name $reply_bytes bytes" answer wide_db wide_keys wide_query wide_reply 2
+  tail -c "$length" three_wide > wanted_wide
+  expect "a record of $name" 0 "record $length bytes" open wide_state wide_reply record_wide; same "a record of $name" record_wide wanted_wide
+done
+
 # ---- what `answer` refuses of SETUP
 
 head -c 1655833 keys > cut_keys; { cat keys; printf '\0'; } > longer_keys
@@ -168,7 +210,7 @@ refused "another version" 5350495203 3 4
 refused "another kind" 535049520107 4 5
 refused "a state" "$(head -c 31 state > cut; hex cut)" 4 5
 refused "a set without a name" 53504952010600 5 7
-refused "a set that isn't handled" 5350495201060974696e792d7061636b 5 7
+refused "a set that isn't known, tiny-spiraI with a capital" 535049520106"0b"74696e792d737069726149 5 7
 absent "refused databases" no
 (ulimit -v 200000; refused "a body of 2^64 - 1 bytes takes no memory" "${front}ffffffffffffffff$n1$n4" 10 15; [ "$failed" = 0 ]) && passed=$((passed + 1)) || failed=$((failed + 1))
 expect "a setup of one byte" 9 "" answer steps_db seven query no 1

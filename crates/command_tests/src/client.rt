@@ -14,7 +14,6 @@ use std::test::Fail;
 fn a_record_is_asked_for_and_opened(rt: HostRuntime) -> Result<(), Fail> {
     let alloc = rt.alloc();
     let set = set_at(EDGE_256);
-    assert!(rt; set.built());
     let mut words = vec![in alloc; 2u64; 11]?;
     words.resize(512, 1)?;
     words.resize(29184, 0)?;
@@ -43,7 +42,6 @@ fn a_record_is_asked_for_and_opened(rt: HostRuntime) -> Result<(), Fail> {
 fn noise_is_measured_and_a_query_with_too_much_is_refused(rt: HostRuntime) -> Result<(), Fail> {
     let alloc = rt.alloc();
     let set = set_at(EDGE_256);
-    assert!(rt; set.built());
     let mut words = vec![in alloc; 2u64; 12]?;
     words.resize(512, 1)?;
     words.resize(29184, 0)?;
@@ -75,13 +73,15 @@ fn frames_are_read(rt: HostRuntime) -> Result<(), Fail> {
     Ok(())
 }
 
-// One byte more than 26 of header and the body of stream-2048: 8 and 2 * 2048; 200 * 3 * 2048 * 7; 16, 4 * 2048 * 17 / 8 and
-// 2 * 2048 * 30 / 8.
+// One byte more than the longest frame of any set. Of streampack-2048, with 30 bytes of header, a State has 8 and 4 * 2048, and a Reply
+// 16, 16 * 2048 * 14 / 8 and 4 * 2048 * 30 / 8. Of pack-2048, with 24 of header, a Setup has 28 + 6 * 8 + 5 * 28 + 8 ciphertexts of 2
+// rows and 4 * 8 of 5 rows, 2048 * 7 bytes a row. Of stream-2048, with 26 of header, a Query has 200 * 3 * 2048 * 7.
 #[test]
-fn no_frame_is_longer_than_those_of_stream_2048(rt: HostRuntime) {
-    assert_eq!(rt; reading_limit(FrameKind::State), 4131);
+fn the_longest_frame_of_any_set_is_read(rt: HostRuntime) {
+    assert_eq!(rt; reading_limit(FrameKind::State), 8231);
+    assert_eq!(rt; reading_limit(FrameKind::Reply), 88_111);
+    assert_eq!(rt; reading_limit(FrameKind::Setup), 8_716_313);
     assert_eq!(rt; reading_limit(FrameKind::Query), 8_601_627);
-    assert_eq!(rt; reading_limit(FrameKind::Reply), 32_811);
 }
 
 #[test]

@@ -16,7 +16,7 @@ fn sixteen_records(alloc: Global) -> Result<Vec<u8>, AllocError> {
 }
 
 /// Runs the program on these words, which puts that line and is done.
-fn expect_line<R: Abort + Threads + Sync>(
+pub(crate) fn expect_line<R: Abort + Threads + Sync>(
     rt: &R,
     alloc: Global,
     words: &[&str],

@@ -13,4 +13,6 @@ mod frames;
 #[cfg(test)]
 mod names;
 #[cfg(test)]
+mod packing;
+#[cfg(test)]
 mod records;

@@ -4,28 +4,28 @@ use frame_headers::{FrameError, FrameKind, HeaderRead, number_at, push_header, r
 use spiral_sets::{digit_count, set_at, set_named};
 use std::test::Fail;
 
-/// The names, in the order of the ids, how many bytes each set's records have at most, and whether the set is handled.
+/// The names, in the order of the ids, how many bytes each set's records have at most, and whether the set has keys.
 const NAMES: [(&str, u64, bool); 10] = [
     ("tiny-spiral", 256, true),
-    ("tiny-pack", 256, false),
-    ("tiny-stream", 1024, true),
-    ("tiny-streampack", 1024, false),
-    ("edge-256", 1024, true),
+    ("tiny-pack", 256, true),
+    ("tiny-stream", 1024, false),
+    ("tiny-streampack", 1024, true),
+    ("edge-256", 1024, false),
     ("spiral-2048", 8192, true),
-    ("pack-2048", 32768, false),
-    ("stream-2048", 15360, true),
-    ("streampack-2048", 49152, false),
+    ("pack-2048", 32768, true),
+    ("stream-2048", 15360, false),
+    ("streampack-2048", 49152, true),
     ("big-2048", 8192, true),
 ];
 
 #[test]
 fn sets_are_found_by_their_names(rt: HostRuntime) -> Result<(), Fail> {
-    for (i, (name, capacity, built)) in NAMES.iter().enumerate() {
+    for (i, (name, capacity, has_keys)) in NAMES.iter().enumerate() {
         let set = set_at(i);
         assert_eq!(rt; set_named(name).ok_or("no set")?, set, "{name}");
         assert_eq!(rt; set.name(), *name);
         assert_eq!(rt; set.capacity(), *capacity, "{name}");
-        assert_eq!(rt; set.built(), *built, "{name}");
+        assert_eq!(rt; set.has_keys(), *has_keys, "{name}");
     }
     Ok(())
 }

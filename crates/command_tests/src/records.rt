@@ -28,7 +28,6 @@ fn a_database_is_made_written_and_read_back(rt: HostRuntime) -> Result<(), Fail>
     let set = set_at(EDGE_256);
     assert!(rt; check_length(&set, 4).is_ok());
     let made = prepare(&set, 4, vec![in alloc; 1, 2, 3, 4, 5, 6, 7, 8]?)?;
-    assert!(rt; made.set().built());
     let mut files = MemFiles::new(alloc, Vec::new(alloc));
     write_db(alloc, &made, &mut files, "db")?;
     assert_eq!(rt; files.bytes("db").ok_or("no file")?, TWO);

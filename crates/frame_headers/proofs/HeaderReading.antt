@@ -1,9 +1,8 @@
 -- Reading a header check by check, and the set of a name.
-use Rattle.std.proofs.Common.{◌≡◌, ℕ, ◌+◌, ◌-◌, ◌/◌, ◌^◌, ◌<◌, ◌≤◌, Bool, true, false, not, List, [], ◌∷◌, length, get_or, take, drop, if◌then◌else◌, Some, None, refl, ap, sym, ◌∙◌, arith, lt-ltb, le-ltb, eq-eqb, ne_eqb, ◌≢◌, zero, suc, length-take, w64}
+use Rattle.std.proofs.Common.{◌≡◌, ℕ, ◌+◌, ◌-◌, ◌/◌, ◌^◌, ◌<◌, ◌≤◌, true, false, not, List, [], ◌∷◌, length, get_or, take, drop, Some, None, refl, ap, sym, ◌∙◌, arith, lt-ltb, le-ltb, eq-eqb, ne_eqb, ◌≢◌, zero, suc, length-take, w64}
 use Rattle.std.specs.Prelude.{slice_get, nat_eq}
 use Rattle.std.specs.List.{AllByRecursion, range_with_len}
 use Rattle.std.specs.Int.{from_le_bytes}
-use Rattle.std.proofs.lemmas.Bool.{true≢false}
 use Rattle.std.proofs.lemmas.List.{get_or-map, length-drop}
 use Rattle.std.proofs.lemmas.List.FromFn.{get_or-range_with_len}
 use Rattle.std.proofs.lemmas.Option.{get_or_from_slice_get}
@@ -18,8 +17,8 @@ use Rattle.spiral_sets.specs.declared.sets.TheConstants.{SETS}
 use Rattle.frame_headers.specs.declared.header.HeaderRead.{HeaderRead}
 use Rattle.frame_headers.specs.declared.header.HeaderRead.TheVariants.{More, Refused, Whole}
 use Rattle.frame_headers.specs.declared.frame_error.FrameError.TheVariants.{Magic, UnknownSet, Length}
-use Rattle.spiral_sets.specs.Sets.{IsSet, IsBuilt, name_of, names, named_among, set_of}
-use Rattle.frame_headers.specs.Checks.{Check, Outcome, checked, ends_before, refuses, passes, header_read, read_by, accepts, if_handled, magic_check, version_checks, version_check, kind_check, name_checks, name_check, body_check, header_checks, number_at, set_in, kind_in, needed_in, needed_of, wrong_length}
+use Rattle.spiral_sets.specs.Sets.{IsSet, name_of, names, named_among, set_of}
+use Rattle.frame_headers.specs.Checks.{Check, Outcome, checked, ends_before, refuses, passes, header_read, read_by, accepts, magic_check, version_checks, version_check, kind_check, name_checks, name_check, body_check, header_checks, number_at, set_in, kind_in, needed_in, needed_of, wrong_length}
 use Rattle.spiral_sets.proofs.SetNames.{set_of_name}
 
 -- ---- one check after another
@@ -120,27 +119,11 @@ unnamed_more name i set before low at here =
 pub named : (name : List ℕ) (set : ParamSet) → IsSet set → pointwise nat_eq name (name_of set) ≡ true → set_of name ≡ Some set
 named name set is same = ap set_of ((bytes_eq-Decides name (name_of set)).0 same) ∙ set_of_name set is
 
--- a set that is not handled
-none_where : (pack : Bool) (set : ParamSet) → (pack ≡ false → ⊥) → (if pack then None else Some set) ≡ None
-none_where true set h = refl
-none_where false set h = absurd (h refl)
-
-pub handled_not : (set : ParamSet) → (IsBuilt set → ⊥) → if_handled (Some set) ≡ None
-handled_not set h = none_where set.pack set h
-
--- and one that is
-some_where : (pack : Bool) (set : ParamSet) → pack ≡ false → (if pack then None else Some set) ≡ Some set
-some_where true set h = absurd (true≢false h)
-some_where false set h = refl
-
-pub handled : (set : ParamSet) → IsBuilt set → if_handled (Some set) ≡ Some set
-handled set h = some_where set.pack set h
-
-pub set_in_is : (bytes : List ℕ) → set_in bytes ≡ if_handled (set_of (take (7 + get_or bytes 6 0 - 7) (drop 7 bytes)))
+pub set_in_is : (bytes : List ℕ) → set_in bytes ≡ set_of (take (7 + get_or bytes 6 0 - 7) (drop 7 bytes))
 unfolding set_in
 set_in_is bytes =
     let count : get_or bytes 6 0 ≡ 7 + get_or bytes 6 0 - 7 = omega arith in
-    ap (λ (k : ℕ). if_handled (set_of (take k (drop 7 bytes)))) count
+    ap (λ (k : ℕ). set_of (take k (drop 7 bytes))) count
 
 -- ---- the exits behind the kind
 

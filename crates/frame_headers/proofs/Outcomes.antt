@@ -1,5 +1,5 @@
 -- What it says that checks pass, fail, or reach the input's end.
-use Rattle.std.proofs.Common.{◌≡◌, ℕ, ◌/◌, ◌^◌, ◌<◌, ◌≤◌, ◌⊎◌, inl, inr, Bool, true, false, List, [], ◌∷◌, ◌++◌, get_or, Option, Some, None, refl, ap, sym, subst, ◌∙◌, arith, lt-ltb, ltb-true, zero, suc}
+use Rattle.std.proofs.Common.{◌≡◌, ℕ, ◌/◌, ◌^◌, ◌<◌, ◌≤◌, ◌⊎◌, inl, inr, Bool, true, false, List, [], ◌∷◌, ◌++◌, get_or, Option, Some, None, refl, ap, sym, ◌∙◌, arith, lt-ltb, ltb-true, zero, suc}
 use Rattle.std.specs.Prelude.{slice_get, nat_eq, nat_lt, if◌then◌else◌}
 use Rattle.std.proofs.lemmas.Bool.{cases_lt}
 use Rattle.std.proofs.lemmas.Option.{get_or_from_slice_get, slice_get_within}
@@ -10,8 +10,8 @@ use Rattle.spiral_sets.specs.declared.param_set.ParamSet.{ParamSet}
 use Rattle.spiral_sets.specs.declared.sets.TheConstants.{SETS}
 use Rattle.frame_headers.specs.declared.frame_error.FrameError.{FrameError}
 use Rattle.frame_headers.specs.declared.header.HeaderRead.TheVariants.{More, Refused, Whole}
-use Rattle.spiral_sets.specs.Sets.{IsSet, IsBuilt, name_of, names, named_among, set_of}
-use Rattle.frame_headers.specs.Checks.{Check, Outcome, checked, passes, refuses, ends_before, read_by, whole_header, accepts, if_handled, is_none, set_in, name_in, kind_in, body_len_in, header_len_in}
+use Rattle.spiral_sets.specs.Sets.{IsSet, name_of, names, named_among, set_of}
+use Rattle.frame_headers.specs.Checks.{Check, Outcome, checked, passes, refuses, ends_before, read_by, whole_header, accepts, is_none, set_in, name_in, kind_in, body_len_in, header_len_in}
 use Rattle.frame_headers.proofs.HeaderReading.{checked-none, checked-passes, id_at}
 
 -- ---- one list of checks after another
@@ -171,19 +171,7 @@ is_named name set h =
       name_is = at.same ∙ ap (λ (k : ℕ). get_or names k []) (sym id);
     }
 
-both : (pack : Bool) (set other : ParamSet) → (if pack then None else Some other) ≡ Some set → (pack ≡ false) × (other ≡ set)
-both true set other h = absurd (cc)
-both false set other h = let same : other ≡ set = cc in (refl, same)
-
-handled_is : (named : Option ParamSet) (set : ParamSet) → if_handled named ≡ Some set → (named ≡ Some set) × IsBuilt set
-handled_is (Some other) set h =
-    let each = both other.pack set other h in
-    (ap (λ (t : ParamSet). Some t) each.1, subst (λ (t : ParamSet). IsBuilt t) each.1 each.0)
-handled_is None set h = absurd (cc)
-
--- the set in a header is known and handled, and has the name there
-pub set_in-named : (bytes : List ℕ) (set : ParamSet) → set_in bytes ≡ Some set → IsNamed (name_in bytes) set × IsBuilt set
+-- the set in a header is known, and has the name there
+pub set_in-named : (bytes : List ℕ) (set : ParamSet) → set_in bytes ≡ Some set → IsNamed (name_in bytes) set
 unfolding set_in
-set_in-named bytes set h =
-    let each = handled_is (set_of (name_in bytes)) set h in
-    (is_named (name_in bytes) set each.0, each.1)
+set_in-named bytes set h = is_named (name_in bytes) set h

@@ -51,13 +51,8 @@ body_len_in bytes = number_at bytes (body_len_place bytes)
 abbrev pub header_len_in : List ℕ → ℕ
 header_len_in bytes = 15 + name_len_in bytes
 
--- the set of a name, where this program handles it
-abbrev pub if_handled : Option ParamSet → Option ParamSet
-if_handled (Some set) = if set.pack then None else Some set
-if_handled None = None
-
 unfoldable pub set_in : List ℕ → Option ParamSet
-set_in bytes = if_handled (set_of (name_in bytes))
+set_in bytes = set_of (name_in bytes)
 
 -- bit k of `kinds` says that kind k is accepted
 abbrev pub accepts : ℕ → ℕ → Bool

@@ -1,7 +1,7 @@
 ghost use Rattle.std.specs.Prelude.{◌≡◌, ◌+◌, ◌++◌, ◌<◌, ◌≤◌, length, [], ◌∷◌, Some, IfOk, IfSome};
 ghost use Rattle.spiral_sets.specs.Sets.{IsSet, set_of};
 ghost use Rattle.frame_headers.specs.Headers.{header};
-ghost use Rattle.frame_headers.specs.Checks.{header_read, version_checks, name_checks, body_check, read_by, checked, accepts, if_handled, set_in, needed_of, wrong_length, number_at as number_in};
+ghost use Rattle.frame_headers.specs.Checks.{header_read, version_checks, name_checks, body_check, read_by, checked, accepts, set_in, needed_of, wrong_length, number_at as number_in};
 
 use crate::{FrameError, FrameKind};
 use no_memory::NoMemory;
@@ -36,8 +36,8 @@ pub enum HeaderRead {
 }
 
 /// Reads one frame header from the front of the bytes: the magic "SPIR", version 1, the kind, the name of a set
-/// behind its length, and the body's length. Bit k of `kinds` says that kind k is accepted; a set that this
-/// program doesn't handle is unknown.
+/// behind its length, and the body's length. Bit k of `kinds` says that kind k is accepted; a name that
+/// no set has is refused.
 ///
 /// The first byte that is wrong gives the refusal, as soon as it is there.
 pub fn read_header(bytes: &[u8], kinds: u8) -> HeaderRead
@@ -100,21 +100,21 @@ fn read_name(bytes: &[u8]) -> HeaderRead
     if bytes.len() < place {
         return HeaderRead::More;
     }
-    match handled_set(&bytes[NAME_PLACE..place]) {
+    match set_of_name(&bytes[NAME_PLACE..place]) {
         None => HeaderRead::Refused(FrameError::UnknownSet { place: 7 }),
         Some(set) => read_body_len(bytes, set),
     }
 }
 
-/// The set of a name, where this program handles it.
-fn handled_set(name: &[u8]) -> Option<ParamSet>
-    ensures value { result ≡ if_handled (set_of name.now) }
+/// The set of a name; `None` exactly where no set has it.
+fn set_of_name(name: &[u8]) -> Option<ParamSet>
+    ensures value { result ≡ set_of name.now }
     ensures known { IfSome result (λ set. IsSet set) }
 {
     for i in 0..SETS_COUNT {
         let set = set_at(i);
         if name == set.name().as_bytes() {
-            return if set.built() { Some(set) } else { None };
+            return Some(set);
         }
     }
     None

@@ -1,5 +1,5 @@
 -- The noise of ciphertexts in the row that is measured, as the code works it out, and the sums of its norms.
-use Rattle.std.proofs.Common.{◌≡◌, ℕ, ◌+◌, ◌-◌, ◌*◌, ◌/◌, ◌^◌, ◌<◌, ◌≤◌, ◌==◌, if◌then◌else◌, Bool, false, pos, List, [], length, get_or, replicate, sym, ◌∙◌, ap, subst, arith}
+use Rattle.std.proofs.Common.{◌≡◌, ℕ, ◌+◌, ◌-◌, ◌*◌, ◌/◌, ◌^◌, ◌<◌, ◌≤◌, ◌==◌, if◌then◌else◌, Bool, pos, List, [], length, get_or, replicate, sym, ◌∙◌, ap, subst, arith}
 use Rattle.std.proofs.lemmas.Int.{ints}
 use Rattle.std.proofs.lemmas.List.FromFn.{get_or-map-range_with_len}
 use Rattle.negacyclic.specs.Residues.{norm}
@@ -13,10 +13,11 @@ use Rattle.ring_poly.proofs.Modulus.{q_some}
 use Rattle.spiral_model.specs.Words.{Poly, Cipher, Gsw, poly_of, row_of, cipher_at, gsw_at}
 use Rattle.spiral_model.specs.Ciphertexts.{phase}
 use Rattle.spiral_model.specs.Queries.{first_place, row_message, in_row, first_messages, column_message, gsw_messages, selection_bit}
-use Rattle.spiral_model.specs.Noise.{noise, noise_norm, polys_of, place_noise, row_noise, selection_noise}
+use Rattle.spiral_model.specs.Noise.{noise, noise_norm, place_noise, row_noise, selection_noise}
 use Rattle.regev_code.specs.Seen.{Secrets}
-use Rattle.regev_code.specs.Shapes.{OfDegree, polynomial_of, under}
-use Rattle.regev_code.proofs.Rows.{under_at, under-length}
+use Rattle.regev_code.specs.Shapes.{OfDegree, polynomial_of, numbers_under, under}
+use Rattle.regev_code.proofs.Rows.{under_at, under-length, under-count}
+use Rattle.gsw_code.specs.Columns.{row_secrets_of}
 use Rattle.noise_check.specs.Rooms.{MeasuredRow, opposite, IsWorkspace, IsRowOf}
 
 -- ---- one ciphertext
@@ -83,40 +84,44 @@ norm_is N D row result secrets opposed message column messages degree key writte
 
 -- ---- the row that is measured
 
--- it is one of the rows that ciphertexts have
-pub row_within : (set : ParamSet) (ring : ℕ) (measured : MeasuredRow) → IsRowOf set ring measured → measured.row < rows set
-row_within set ring measured is =
-    let all : rows set ≡ set.n = ap (λ (b : Bool). if b then 1 else set.n) is.plain in
-    let within : measured.row < set.n = is.within in
-    omega arith
+-- it is one of those of the secrets under which the ciphertexts stand
+pub row_held : (set : ParamSet) (ring N : ℕ) (measured : MeasuredRow) → IsRowOf set ring measured → measured.row < length (numbers_under measured.secrets measured.scalar)
+    → measured.row + 1 ≤ length (under N measured.secrets set.pack)
+row_held set ring N measured is within =
+    let same = ap (λ (b : Bool). length (under N measured.secrets b)) is.scalar in
+    omega (arith, same, under-count N measured.secrets measured.scalar)
 
 -- its secret is the row's among all
 pub row_opposite : (set : ParamSet) (ring : ℕ) (measured : MeasuredRow) (opposed : Poly) → IsRowOf set ring measured
-    → opposed ≡ opposite measured.degree (poly_of (under measured.degree measured.secrets false) measured.row)
-    → opposed ≡ opposite set.degree (poly_of (polys_of set measured.secrets.rows) measured.row)
-row_opposite set ring measured opposed is key = key ∙ ap (λ (n : ℕ). opposite n (poly_of (under n measured.secrets false) measured.row)) is.degree
+    → opposed ≡ opposite measured.degree (poly_of (under measured.degree measured.secrets measured.scalar) measured.row)
+    → opposed ≡ opposite set.degree (poly_of (row_secrets_of set measured.secrets) measured.row)
+row_opposite set ring measured opposed is key =
+    key
+    ∙ ap (λ (n : ℕ). opposite n (poly_of (under n measured.secrets measured.scalar) measured.row)) is.degree
+    ∙ ap (λ (b : Bool). opposite set.degree (poly_of (under set.degree measured.secrets b) measured.row)) is.scalar
 
 -- what it encrypts in a column of a GSW ciphertext
 pub column_message_is : (set : ParamSet) (ring : ℕ) (measured : MeasuredRow) (bit power r k : ℕ) (message : Poly) → IsRowOf set ring measured → power ≡ bit * 2 ^ (set.w_gsw * k)
-    → message ≡ column_message ring (under ring measured.secrets false) power r (measured.row + 1)
-    → message ≡ poly_of (gsw_messages set (polys_of set measured.secrets.rows) bit r k) measured.row
+    → message ≡ column_message ring (under ring measured.secrets set.pack) power r (measured.row + 1)
+    → message ≡ poly_of (gsw_messages set (row_secrets_of set measured.secrets) bit r k) measured.row
 column_message_is set ring measured bit power r k message is counts worked =
     worked
-    ∙ ap (λ (n : ℕ). column_message n (under n measured.secrets false) power r (measured.row + 1)) is.ring_degree
-    ∙ ap (λ (x : ℕ). column_message set.degree (polys_of set measured.secrets.rows) x r (measured.row + 1)) counts
-    ∙ sym (column_message_at set (polys_of set measured.secrets.rows) bit r k measured.row (row_within set ring measured is))
+    ∙ ap (λ (n : ℕ). column_message n (under n measured.secrets set.pack) power r (measured.row + 1)) is.ring_degree
+    ∙ ap (λ (x : ℕ). column_message set.degree (row_secrets_of set measured.secrets) x r (measured.row + 1)) counts
+    ∙ sym (column_message_at set (row_secrets_of set measured.secrets) bit r k measured.row is.within)
 
 -- and in a ciphertext of the first dimension
 pub first_message_is : (set : ParamSet) (ring : ℕ) (measured : MeasuredRow) (index u r : ℕ) (message : Poly) → IsRowOf set ring measured
     → message ≡ row_message set r (if u == first_place set index then pos (delta set) else pos 0) (measured.row + 1)
     → message ≡ poly_of (first_messages set index u r) measured.row
-first_message_is set ring measured index u r message is worked = worked ∙ sym (first_message_at set index u r measured.row (row_within set ring measured is))
+first_message_is set ring measured index u r message is worked = worked ∙ sym (first_message_at set index u r measured.row is.within)
 
 -- ---- the room
 
 -- the secret of a row, as the code reads it, has N coefficients
-pub key_degree : (N : ℕ) (secrets : Secrets) (row : ℕ) (key : Poly) → OfDegree N secrets → row < length secrets.rows → key ≡ polynomial_of (get_or secrets.rows row []) → length key ≡ N
-key_degree N secrets row key is within read = under-length N secrets false row key is within read
+pub key_degree : (N : ℕ) (secrets : Secrets) (scalar : Bool) (row : ℕ) (key : Poly) → OfDegree N secrets → row < length (numbers_under secrets scalar)
+    → key ≡ polynomial_of (get_or (numbers_under secrets scalar) row []) → length key ≡ N
+key_degree N secrets scalar row key is within read = under-length N secrets scalar row key is within read
 
 -- its opposite, as the code works it out
 pub opposite_worked : (N L M : ℕ) (secret cleared room : Poly) → L ≡ N → M ≡ N → cleared ≡ replicate {A = ℕ} L 0 → room ≡ ring_sub q M cleared secret → room ≡ opposite N secret
@@ -129,17 +134,17 @@ pub opposite_degree : (N : ℕ) (secret opposed : Poly) → opposed ≡ opposite
 opposite_degree N secret opposed is = ap length is ∙ length-ring_sub q N (ring_zero q N) secret
 
 -- room for a row of secrets of that degree, of polynomials of that degree
-pub room_of : (N : ℕ) (secrets : Secrets) (row : ℕ) (key opposed form phase message : Poly) → OfDegree N secrets → row < length secrets.rows → row < 2 ^ 31
-    → key ≡ polynomial_of (get_or secrets.rows row []) → opposed ≡ opposite N key → length form ≡ N → length phase ≡ N → length message ≡ N
-    → IsWorkspace (record { degree = length opposed; secrets = secrets; row = row }) opposed form phase message
-room_of N secrets row key opposed form phase message is within few read turned f h m =
+pub room_of : (N : ℕ) (secrets : Secrets) (scalar : Bool) (row : ℕ) (key opposed form phase message : Poly) → OfDegree N secrets → row < length (numbers_under secrets scalar)
+    → row < 2 ^ 31 → key ≡ polynomial_of (get_or (numbers_under secrets scalar) row []) → opposed ≡ opposite N key → length form ≡ N → length phase ≡ N → length message ≡ N
+    → IsWorkspace (record { degree = length opposed; secrets = secrets; scalar = scalar; row = row }) opposed form phase message
+room_of N secrets scalar row key opposed form phase message is within few read turned f h m =
     let size : length opposed ≡ N = opposite_degree N key opposed turned in
     record {
       degrees = subst (λ (n : ℕ). OfDegree n secrets) (sym size) is;
       within = within;
       few = few;
-      opposite_is = turned ∙ ap (λ (a : Poly). opposite N a) (under_at N secrets false row key is within read)
-          ∙ ap (λ (n : ℕ). opposite n (poly_of (under n secrets false) row)) (sym size);
+      opposite_is = turned ∙ ap (λ (a : Poly). opposite N a) (under_at N secrets scalar row key is within read)
+          ∙ ap (λ (n : ℕ). opposite n (poly_of (under n secrets scalar) row)) (sym size);
       form_degree = f ∙ sym size;
       phase_degree = h ∙ sym size;
       message_degree = m ∙ sym size;
@@ -150,36 +155,36 @@ room_of N secrets row key opposed form phase message is within few read turned f
 -- of a place of the first dimension: the norm of column c
 abbrev pub first_term : ParamSet → MeasuredRow → ℕ → List Cipher → ℕ → ℕ → ℕ
 first_term set measured index firsts u c =
-    noise_norm set.degree (polys_of set measured.secrets.rows) (cipher_at firsts (u * rows set + c)) (first_messages set index u (c + 1)) measured.row
+    noise_norm set.degree (row_secrets_of set measured.secrets) (cipher_at firsts (u * rows set + c)) (first_messages set index u (c + 1)) measured.row
 
 -- as the code reads the column
 pub first_read : (set : ParamSet) (now before : MeasuredRow) (index u c x : ℕ) (firsts : List Cipher) (column : Cipher) → now ≡ before → column ≡ cipher_at firsts (u * rows set + c)
-    → x ≡ noise_norm set.degree (polys_of set now.secrets.rows) column (first_messages set index u (c + 1)) now.row → x ≡ first_term set before index firsts u c
+    → x ≡ noise_norm set.degree (row_secrets_of set now.secrets) column (first_messages set index u (c + 1)) now.row → x ≡ first_term set before index firsts u c
 first_read set now before index u c x firsts column same read worked =
-    worked ∙ ap (λ (d : Cipher). noise_norm set.degree (polys_of set now.secrets.rows) d (first_messages set index u (c + 1)) now.row) read
+    worked ∙ ap (λ (d : Cipher). noise_norm set.degree (row_secrets_of set now.secrets) d (first_messages set index u (c + 1)) now.row) read
     ∙ ap (λ (m : MeasuredRow). first_term set m index firsts u c) same
 
 -- of the first dimension: the norms of place u
 abbrev pub place_term : ParamSet → MeasuredRow → ℕ → List Cipher → ℕ → ℕ
-place_term set measured index firsts u = place_noise set (polys_of set measured.secrets.rows) index firsts measured.row u
+place_term set measured index firsts u = place_noise set (row_secrets_of set measured.secrets) index firsts measured.row u
 
 -- of row r of a selection: the norm of column (r, k)
 abbrev pub column_term : ParamSet → MeasuredRow → ℕ → Gsw → ℕ → ℕ → ℕ
 column_term set measured bit gsw r k =
-    noise_norm set.degree (polys_of set measured.secrets.rows) (cipher_at gsw (r * digit_count set.w_gsw + k)) (gsw_messages set (polys_of set measured.secrets.rows) bit r k) measured.row
+    noise_norm set.degree (row_secrets_of set measured.secrets) (cipher_at gsw (r * digit_count set.w_gsw + k)) (gsw_messages set (row_secrets_of set measured.secrets) bit r k) measured.row
 
 -- of a selection: the norms of row r
 abbrev pub row_term : ParamSet → MeasuredRow → ℕ → Gsw → ℕ → ℕ
-row_term set measured bit gsw r = row_noise set (polys_of set measured.secrets.rows) bit gsw measured.row r
+row_term set measured bit gsw r = row_noise set (row_secrets_of set measured.secrets) bit gsw measured.row r
 
 -- of all selections: the norms of selection l
 abbrev pub selection_term : ParamSet → MeasuredRow → ℕ → List Gsw → ℕ → ℕ
-selection_term set measured index gsws l = selection_noise set (polys_of set measured.secrets.rows) (selection_bit set index l) (gsw_at gsws l) measured.row
+selection_term set measured index gsws l = selection_noise set (row_secrets_of set measured.secrets) (selection_bit set index l) (gsw_at gsws l) measured.row
 
 -- as the code reads the ciphertext and the bit
 pub selection_read : (set : ParamSet) (now before : MeasuredRow) (index l bit x : ℕ) (gsws : List Gsw) (gsw : Gsw) → now ≡ before → bit ≡ selection_bit set index l → gsw ≡ gsw_at gsws l
-    → x ≡ selection_noise set (polys_of set now.secrets.rows) bit gsw now.row → x ≡ selection_term set before index gsws l
+    → x ≡ selection_noise set (row_secrets_of set now.secrets) bit gsw now.row → x ≡ selection_term set before index gsws l
 selection_read set now before index l bit x gsws gsw same asked read worked =
-    worked ∙ ap (λ (b : ℕ). selection_noise set (polys_of set now.secrets.rows) b gsw now.row) asked
-    ∙ ap (λ (g : Gsw). selection_noise set (polys_of set now.secrets.rows) (selection_bit set index l) g now.row) read
+    worked ∙ ap (λ (b : ℕ). selection_noise set (row_secrets_of set now.secrets) b gsw now.row) asked
+    ∙ ap (λ (g : Gsw). selection_noise set (row_secrets_of set now.secrets) (selection_bit set index l) g now.row) read
     ∙ ap (λ (m : MeasuredRow). selection_term set m index gsws l) same

@@ -3,6 +3,8 @@
 
 ghost use Rattle.noise_check.specs.Reports.{ReportsFit};
 
+mod lift_message;
+mod lift_noise;
 mod measuring;
 mod reported;
 mod sides;

@@ -2,8 +2,9 @@ ghost use Rattle.std.specs.Prelude.{◌≡◌, ◌+◌, ◌*◌, ◌^◌, ◌<�
 ghost use Rattle.spiral_sets.specs.Sets.{IsSet, places, rows};
 ghost use Rattle.spiral_sets.specs.Counts.{firsts_count};
 ghost use Rattle.spiral_model.specs.Words.{cipher_at};
-ghost use Rattle.spiral_model.specs.Noise.{polys_of, place_noise as place_noise_of, first_noise as first_noise_of, row_noise as row_noise_of, selection_noise as selection_noise_of, gsw_noise as gsw_noise_of};
+ghost use Rattle.spiral_model.specs.Noise.{place_noise as place_noise_of, first_noise as first_noise_of, row_noise as row_noise_of, selection_noise as selection_noise_of, gsw_noise as gsw_noise_of};
 ghost use Rattle.regev_code.specs.Products.{HasShape};
+ghost use Rattle.gsw_code.specs.Columns.{row_secrets_of};
 ghost use Rattle.gsw_code.specs.Products.{IsGsw};
 ghost use Rattle.noise_check.specs.Rooms.{IsRowOf};
 
@@ -40,7 +41,7 @@ fn place_noise(
     requires place { u < places set.now }
     requires many { length firsts.now ≡ firsts_count set.now }
     requires shapes { All (HasShape set.now.degree (rows set.now + 1)) firsts.now }
-    ensures value { result ≡ place_noise_of set.now (polys_of set.now room.old.secrets.rows) index firsts.now room.old.row u }
+    ensures value { result ≡ place_noise_of set.now (row_secrets_of set.now room.old.secrets) index firsts.now room.old.row u }
     ensures size { result ≤ 2 ^ 68 }
     ensures room { room.new ≡ room.old }
 {
@@ -63,7 +64,7 @@ pub(crate) fn first_noise(
     requires measured { IsRowOf set.now ring.now room.old }
     requires many { length firsts.now ≡ firsts_count set.now }
     requires shapes { All (HasShape set.now.degree (rows set.now + 1)) firsts.now }
-    ensures value { result ≡ first_noise_of set.now (polys_of set.now room.old.secrets.rows) index firsts.now room.old.row }
+    ensures value { result ≡ first_noise_of set.now (row_secrets_of set.now room.old.secrets) index firsts.now room.old.row }
     ensures size { result ≤ 2 ^ 76 }
     ensures room { room.new ≡ room.old }
 {
@@ -86,7 +87,7 @@ fn row_noise(
     requires measured { IsRowOf set.now ring.now room.old }
     requires gsw { IsGsw set.now gsw.now }
     requires row { r ≤ rows set.now }
-    ensures value { result ≡ row_noise_of set.now (polys_of set.now room.old.secrets.rows) (if bit then 1 else 0) gsw.now room.old.row r }
+    ensures value { result ≡ row_noise_of set.now (row_secrets_of set.now room.old.secrets) (if bit then 1 else 0) gsw.now room.old.row r }
     ensures size { result ≤ 2 ^ 72 }
     ensures room { room.new ≡ room.old }
 {
@@ -107,7 +108,7 @@ fn selection_noise(
 ) -> u128
     requires measured { IsRowOf set.now ring.now room.old }
     requires gsw { IsGsw set.now gsw.now }
-    ensures value { result ≡ selection_noise_of set.now (polys_of set.now room.old.secrets.rows) (if bit then 1 else 0) gsw.now room.old.row }
+    ensures value { result ≡ selection_noise_of set.now (row_secrets_of set.now room.old.secrets) (if bit then 1 else 0) gsw.now room.old.row }
     ensures size { result ≤ 2 ^ 75 }
     ensures room { room.new ≡ room.old }
 {
@@ -129,7 +130,7 @@ pub(crate) fn gsw_noise(
     requires measured { IsRowOf set.now ring.now room.old }
     requires many { length gsws.now ≡ set.now.nu2 }
     requires shapes { All (IsGsw set.now) gsws.now }
-    ensures value { result ≡ gsw_noise_of set.now (polys_of set.now room.old.secrets.rows) index gsws.now room.old.row }
+    ensures value { result ≡ gsw_noise_of set.now (row_secrets_of set.now room.old.secrets) index gsws.now room.old.row }
     ensures size { result ≤ 2 ^ 77 }
     ensures room { room.new ≡ room.old }
 {

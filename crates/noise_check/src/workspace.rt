@@ -1,15 +1,18 @@
-ghost use Rattle.std.specs.Prelude.{◌≡◌, ◌+◌, ◌*◌, ◌^◌, ◌<◌, ◌≤◌, length, All, IfOk, if◌then◌else◌, slice_index_or, [], not, nat_eq, unsigned_abs};
+ghost use Rattle.std.specs.Prelude.{◌≡◌, ◌+◌, ◌*◌, ◌^◌, ◌<◌, ◌≤◌, false, length, All, IfOk, if◌then◌else◌, slice_index_or, [], not, nat_eq, unsigned_abs};
 ghost use Rattle.negacyclic.specs.Residues.{norm};
 ghost use Rattle.negacyclic.specs.Ring.{ring_add, ring_sub, ring_mul};
 ghost use Rattle.spiral_sets.specs.Sets.{q, digit_count as digit_count_of, rows};
 ghost use Rattle.spiral_model.specs.Words.{row_of, cipher_at};
 ghost use Rattle.spiral_model.specs.Queries.{first_messages, gsw_messages};
+ghost use Rattle.spiral_model.specs.Dealing.{lift_message};
 ghost use Rattle.spiral_model.specs.Noise.{noise_norm, polys_of, secret_weight};
-ghost use Rattle.regev_code.specs.Shapes.{OfDegree, secret_row};
+ghost use Rattle.regev_code.specs.Shapes.{OfDegree, numbers_under, scalar_of, secret_row};
 ghost use Rattle.regev_code.specs.Products.{HasShape};
+ghost use Rattle.gsw_code.specs.Columns.{row_secrets_of};
 ghost use Rattle.gsw_code.specs.Products.{IsGsw};
-ghost use Rattle.noise_check.specs.Rooms.{IsRowOf, opposite as opposite_of};
+ghost use Rattle.noise_check.specs.Rooms.{IsRowOf, IsLiftRow, opposite as opposite_of};
 
+use crate::lift_message::lift_message_into;
 use gsw_code::{Gsw, column_message_into, first_message_into, power_of};
 use no_memory::NoMemory;
 use regev_code::{CipherT, Secret};
@@ -19,9 +22,11 @@ use std::alloc::Global;
 use std::marker::Model;
 
 /// The secrets, one row that is measured, and room for it, so that measuring takes no memory. Seen as the degree, the
-/// secrets and the row.
+/// secrets, the list in which the row's secret stands, and the row.
 pub(crate) struct Workspace<'a> {
     secrets: &'a Secret,
+    /// whether the row's secret is the scalar one, and not one of s_1 to s_n
+    scalar: bool,
     /// the row, counted from 0
     row: u32,
     /// the opposite of its secret, in product form
@@ -40,9 +45,9 @@ impl<'a> Model for Workspace<'a> {
 
     ghost Value = { MeasuredRow };
 
-    ghost view = { λ w. record { degree = length w.opposite; secrets = w.secrets.now; row = w.row } };
+    ghost view = { λ w. record { degree = length w.opposite; secrets = w.secrets.now; scalar = w.scalar; row = w.row } };
 
-    ghost invariant = { λ w. IsWorkspace (record { degree = length w.opposite; secrets = w.secrets.now; row = w.row }) w.opposite w.form w.phase w.message };
+    ghost invariant = { λ w. IsWorkspace (record { degree = length w.opposite; secrets = w.secrets.now; scalar = w.scalar; row = w.row }) w.opposite w.form w.phase w.message };
 }
 
 /// By hand: a caller's proof then takes one step for it, and not one for each of its lists.
@@ -50,6 +55,7 @@ impl Drop for Workspace<'_> {
     fn drop(self) {
         let Self {
             secrets: _,
+            scalar: _,
             row: _,
             opposite: _,
             form: _,
@@ -129,7 +135,7 @@ fn weight_of(secrets: &Secret, r: u32, degree: usize) -> u64
 }
 
 impl<'a> Workspace<'a> {
-    /// Room for the rows of these secrets, the first of which is measured.
+    /// Room for the rows of these secrets, turned to that of s_1.
     pub(crate) fn new(
         alloc: Global,
         ring: &Ring,
@@ -137,7 +143,7 @@ impl<'a> Workspace<'a> {
     ) -> Result<Workspace<'a>, NoMemory>
         requires degrees { OfDegree ring.now secrets.now }
         requires some { 0 < length secrets.now.rows }
-        ensures { IfOk result (λ room. room ≡ record { degree = ring.now; secrets = secrets.now; row = 0 }) }
+        ensures { IfOk result (λ room. room ≡ record { degree = ring.now; secrets = secrets.now; scalar = false; row = 0 }) }
     {
         let degree = ring.degree();
         let mut phase = Poly::zero(alloc, degree)?;
@@ -145,6 +151,7 @@ impl<'a> Workspace<'a> {
         write_opposite(ring, secrets.poly(false, 0), &mut phase, &mut opposite);
         Ok(Workspace {
             secrets,
+            scalar: false,
             row: 0,
             opposite,
             form: PolyT::zero(alloc, degree)?,
@@ -153,22 +160,24 @@ impl<'a> Workspace<'a> {
         })
     }
 
-    /// Turns to a row, counted from 0.
-    pub(crate) fn turn_to(&mut self, ring: &Ring, row: u32)
+    /// Turns to a row of the scalar secret, or of s_1 to s_n, counted from 0.
+    pub(crate) fn turn_to(&mut self, ring: &Ring, scalar: bool, row: u32)
         requires degree { self.old.degree ≡ ring.now }
-        requires row { row < length self.old.secrets.rows }
+        requires row { row < length (numbers_under self.old.secrets scalar) }
         requires few { row < 2 ^ 31 }
-        ensures { self.new ≡ record self.old { row = row } }
+        ensures { self.new ≡ record self.old { scalar = scalar; row = row } }
     {
         let secrets = self.secrets;
-        let secret = secrets.poly(false, row as usize);
+        let secret = secrets.poly(scalar, row as usize);
         write_opposite(ring, secret, &mut self.phase, &mut self.opposite);
+        self.scalar = scalar;
         self.row = row;
     }
 
-    /// The weight of the row's secret.
+    /// The weight of the row's secret, which is one of s_1 to s_n.
     pub(crate) fn weight(&self, ring: &Ring) -> u64
-        requires { self.now.degree ≡ ring.now }
+        requires degree { self.now.degree ≡ ring.now }
+        requires row { self.now.row < length self.now.secrets.rows }
         ensures value { result ≡ secret_weight (slice_index_or self.now.secrets.rows self.now.row []) }
         ensures size { result ≤ ring.now }
     {
@@ -188,7 +197,7 @@ impl<'a> Workspace<'a> {
         requires measured { IsRowOf set.now ring.now self.old }
         requires column { HasShape set.now.degree (rows set.now + 1) column.now }
         requires few { c < 2 ^ 31 }
-        ensures value { result ≡ noise_norm set.now.degree (polys_of set.now self.old.secrets.rows) column.now (first_messages set.now index u (c + 1)) self.old.row }
+        ensures value { result ≡ noise_norm set.now.degree (row_secrets_of set.now self.old.secrets) column.now (first_messages set.now index u (c + 1)) self.old.row }
         ensures size { result ≤ 2 ^ 66 }
         ensures room { self.new ≡ self.old }
     {
@@ -219,18 +228,47 @@ impl<'a> Workspace<'a> {
         requires gsw { IsGsw set.now gsw.now }
         requires row { r ≤ rows set.now }
         requires digit { k < digit_count_of set.now.w_gsw }
-        ensures value { result ≡ noise_norm set.now.degree (polys_of set.now self.old.secrets.rows) (cipher_at gsw.now (r * digit_count_of set.now.w_gsw + k)) (gsw_messages set.now (polys_of set.now self.old.secrets.rows) (if bit then 1 else 0) r k) self.old.row }
+        ensures value { result ≡ noise_norm set.now.degree (row_secrets_of set.now self.old.secrets) (cipher_at gsw.now (r * digit_count_of set.now.w_gsw + k)) (gsw_messages set.now (row_secrets_of set.now self.old.secrets) (if bit then 1 else 0) r k) self.old.row }
         ensures size { result ≤ 2 ^ 66 }
         ensures room { self.new ≡ self.old }
     {
         let secrets = self.secrets;
         let row = self.row + 1;
         let power = power_of(set, bit, k);
-        column_message_into(ring, secrets, false, power, r, row, &mut self.message);
+        column_message_into(ring, secrets, set.pack, power, r, row, &mut self.message);
         norm_beyond(
             ring,
             &self.opposite,
             gsw.column(set, r, k),
+            row,
+            &self.message,
+            &mut self.form,
+            &mut self.phase,
+        )
+    }
+
+    /// The norm of the noise of ciphertext k of the lift key of row r.
+    pub(crate) fn lift_norm(
+        &mut self,
+        ring: &Ring,
+        set: &ParamSet,
+        r: u32,
+        k: u32,
+        cipher: &CipherT,
+    ) -> u128
+        requires measured { IsLiftRow set.now ring.now self.old }
+        requires cipher { HasShape set.now.degree (set.now.n + 1) cipher.now }
+        requires digit { k < digit_count_of set.now.w_conv }
+        ensures value { result ≡ noise_norm set.now.degree (polys_of set.now self.old.secrets.rows) cipher.now (lift_message set.now (scalar_of set.now.degree self.old.secrets) r k) self.old.row }
+        ensures size { result ≤ 2 ^ 66 }
+        ensures room { self.new ≡ self.old }
+    {
+        let row = self.row + 1;
+        lift_message_into(ring, set, self.secrets, r, k, row, &mut self.message);
+        norm_beyond(
+            ring,
+            &self.opposite,
+            cipher,
             row,
             &self.message,
             &mut self.form,

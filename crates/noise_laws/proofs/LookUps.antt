@@ -12,7 +12,7 @@ use Rattle.negacyclic.proofs.Residues.{residue-below}
 use Rattle.negacyclic.proofs.Lengths.{length-ring_add, length-ring_total}
 use Rattle.negacyclic.proofs.Lists.{all_range, all_pieces, all_flat_map}
 use Rattle.spiral_sets.specs.declared.param_set.ParamSet.{ParamSet}
-use Rattle.spiral_sets.specs.Sets.{IsBuilt, q, q1, q2, q1_bits, rows, columns, entries}
+use Rattle.spiral_sets.specs.Sets.{q, q1, q2, q1_bits, rows, columns, entries}
 use Rattle.spiral_sets.proofs.SetBounds.{n-some}
 use Rattle.spiral_model.specs.Words.{Poly, Cipher, Gsw, Matrix, row_of, cipher_at}
 use Rattle.spiral_model.specs.Databases.{RecordTable, IsTable, record_at, matrices_of}
@@ -35,17 +35,7 @@ pub of_one_set : (table : RecordTable) (words : List ℕ) (index : ℕ) → (sta
 unfolding state_of answer_of reply_of
 of_one_set table words index = refl
 
--- which is handled where that one is,
-pub state_built : (table : RecordTable) (words : List ℕ) (index : ℕ) → IsBuilt table.set → IsBuilt (state_of table.set words index).set
-unfolding state_of
-state_built table words index built = built
-
--- and so is the reply's;
-pub reply_built : (table : RecordTable) (words : List ℕ) (index : ℕ) → IsBuilt table.set → IsBuilt (reply_to table words index).set
-unfolding answer_of reply_of
-reply_built table words index built = built
-
--- the index is below the count.
+-- and the index is below the count.
 pub asked_below : (table : RecordTable) (words : List ℕ) (index : ℕ) → LookUp table words index
     → (state_of table.set words index).index < (reply_to table words index).count
 unfolding state_of answer_of reply_of

@@ -42,7 +42,8 @@ front-agrees k words = record { word = λ j h. get_or-take k words j 0 h }
 uniform-same : (N k : ℕ) (u v : List ℕ) (start : ℕ) → Agree k u v → start + 2 * N ≤ k → uniform_poly N u start ≡ uniform_poly N v start
 unfolding uniform_poly
 uniform-same N k u v start same h =
-    same_range (λ i. uniform_number (get_or u (start + 2 * i) 0) (get_or u (start + 2 * i + 1) 0)) (λ i. uniform_number (get_or v (start + 2 * i) 0) (get_or v (start + 2 * i + 1) 0)) N
+    same_range (λ i. uniform_number (get_or u (start + 2 * i) 0) (get_or u (start + 2 * i + 1) 0))
+    (λ i. uniform_number (get_or v (start + 2 * i) 0) (get_or v (start + 2 * i + 1) 0)) N
     (λ i g.
     let high = same.word (start + 2 * i) (omega arith) in
     let low = same.word (start + 2 * i + 1) (omega arith) in
@@ -97,7 +98,8 @@ all-same N m k u v start secrets (x ∷ xs) same all h =
 
 -- s_1 to s_n, whether the scalar secret stands before them or not
 rows-same-by : (has : Bool) (N n k : ℕ) (u v : List ℕ) → Agree k u v → N * (n + (if has then 1 else 0)) ≤ k
-    → map (λ r. secret_numbers N u ((if has then r + 1 else r) * N)) (range_with_len 0 n) ≡ map (λ r. secret_numbers N v ((if has then r + 1 else r) * N)) (range_with_len 0 n)
+    → map (λ r. secret_numbers N u ((if has then r + 1 else r) * N)) (range_with_len 0 n) ≡ map (λ r. secret_numbers N v ((if has then r + 1 else r) * N))
+    (range_with_len 0 n)
 rows-same-by true N n k u v same h =
     same_range (λ r. secret_numbers N u ((r + 1) * N)) (λ r. secret_numbers N v ((r + 1) * N)) n
     (λ r g.
@@ -202,7 +204,8 @@ keys-same set k u v known same h =
 dealt_keys-same : (set : ParamSet) (k : ℕ) (u v : List ℕ) → IsSet set → Agree k u v → query_words set ≤ k → dealt_keys set u ≡ dealt_keys set v
 unfolding dealt_keys key_body_of
 dealt_keys-same set k u v known same h =
-    ap {A = List Cipher} {B = Option SetKeys} (λ cs. if has_keys set then Some (keys_in (record { set = set; ciphers = cs })) else None) (keys-same set k u v known same h)
+    ap {A = List Cipher} {B = Option SetKeys} (λ cs. if has_keys set then Some (keys_in (record { set = set; ciphers = cs })) else None)
+    (keys-same set k u v known same h)
 
 -- ---- the query
 
@@ -250,13 +253,16 @@ keys-front set k words known h =
     ap {A = List Cipher} {B = List ℕ} (λ cs. if has_keys set then frame_of (setup_message (record { set = set; ciphers = cs })) else [])
     (sym (keys-same set k (take k words) words known (front-agrees k words) (omega (arith, h))))
 
-pub query-front : (set : ParamSet) (k : ℕ) (words : List ℕ) (index : ℕ) → IsSet set → words_needed set ≤ k → query_body_of set words index ≡ query_body_of set (take k words) index
+pub query-front : (set : ParamSet) (k : ℕ) (words : List ℕ) (index : ℕ) → IsSet set → words_needed set ≤ k
+    → query_body_of set words index ≡ query_body_of set (take k words) index
 unfolding query_body_of
 query-front set k words index known h =
-    ap {A = List Cipher} {B = CipherBody} (λ cs. record { set = set; ciphers = cs }) (sym (query-same set k (take k words) words index known (front-agrees k words) h))
+    ap {A = List Cipher} {B = CipherBody} (λ cs. record { set = set; ciphers = cs })
+    (sym (query-same set k (take k words) words index known (front-agrees k words) h))
 
 -- The noise of what words deal is that of what the first of them deal.
-pub report-front : (set : ParamSet) (k : ℕ) (words : List ℕ) (index : ℕ) → IsSet set → words_needed set ≤ k → dealt_report set words index ≡ dealt_report set (take k words) index
+pub report-front : (set : ParamSet) (k : ℕ) (words : List ℕ) (index : ℕ) → IsSet set → words_needed set ≤ k
+    → dealt_report set words index ≡ dealt_report set (take k words) index
 unfolding dealt_report
 report-front set k words index known h =
     let front : List ℕ = take k words in
@@ -266,7 +272,8 @@ report-front set k words index known h =
     let rows : secret_rows set front ≡ secret_rows set words = secret_rows-same set k front words same within in
     let query : query_of set front index ≡ query_of set words index = query-same set k front words index known same h in
     let keys : dealt_keys set front ≡ dealt_keys set words = dealt_keys-same set k front words known same (omega (arith, h)) in
-    let Of : Poly → List (List ℤ) → Option SetKeys → List Cipher → List NoiseRow = λ s numbers sent ciphers. report_of set s numbers index (lift_keys sent) (ready_of set sent ciphers) in
+    let Of : Poly → List (List ℤ) → Option SetKeys → List Cipher → List NoiseRow =
+    λ s numbers sent ciphers. report_of set s numbers index (lift_keys sent) (ready_of set sent ciphers) in
     ap (λ (s : Poly). Of s (secret_rows set words) (dealt_keys set words) (query_of set words index)) (sym scalar)
     ∙ ap (λ (numbers : List (List ℤ)). Of (scalar_secret set front) numbers (dealt_keys set words) (query_of set words index)) (sym rows)
     ∙ ap (λ (sent : Option SetKeys). Of (scalar_secret set front) (secret_rows set front) sent (query_of set words index)) (sym keys)

@@ -23,4 +23,5 @@ length-rows N [] all = omega arith
 length-rows N (r ∷ rows) all =
     let first : length r ≡ N = All-head (λ (s : List ℤ). length s ≡ N) r rows all in
     let rest = length-rows N rows (All-tail (λ (s : List ℤ). length s ≡ N) r rows all) in
-    length-append r (flat_map (λ (row : List ℤ). row) rows) ∙ (let sum : length r + length (flat_map (λ (row : List ℤ). row) rows) ≡ length (r ∷ rows) * N = omega (arith, first, rest) in sum)
+    length-append r (flat_map (λ (row : List ℤ). row) rows)
+    ∙ (let sum : length r + length (flat_map (λ (row : List ℤ). row) rows) ≡ length (r ∷ rows) * N = omega (arith, first, rest) in sum)

@@ -17,7 +17,8 @@ use Rattle.pir_client.proofs.SetNumbers.{query_count-is}
 
 -- what all rows encrypt
 pub in_row-all : (set : ParamSet) (index u r m : ℕ) (worked : List Poly) → m ≡ rows set
-    → worked ≡ map (row_message set r (if u == first_place set index then pos (delta set) else pos 0)) (range_with_len 1 m) → worked ≡ first_messages set index u r
+    → worked ≡ map (row_message set r (if u == first_place set index then pos (delta set) else pos 0)) (range_with_len 1 m)
+    → worked ≡ first_messages set index u r
 unfolding in_row
 in_row-all set index u r m worked all is =
     is ∙ ap (λ (n : ℕ). map (row_message set r (if u == first_place set index then pos (delta set) else pos 0)) (range_with_len 1 n)) all
@@ -30,7 +31,8 @@ length-first_messages set index u r =
 pub first_messages-degree : (set : ParamSet) (index u r : ℕ) → All (λ a. length a ≡ set.degree) (first_messages set index u r)
 unfolding in_row row_message
 first_messages-degree set index u r =
-    All-map (λ (a : Poly). length a ≡ set.degree) (row_message set r (if u == first_place set index then pos (delta set) else pos 0)) (range_with_len 1 (rows set))
+    All-map (λ (a : Poly). length a ≡ set.degree) (row_message set r (if u == first_place set index then pos (delta set) else pos 0))
+    (range_with_len 1 (rows set))
     (λ k d h. length-constant set.degree _)
 
 -- ---- lists of messages

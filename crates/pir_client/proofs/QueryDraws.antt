@@ -19,7 +19,8 @@ use Rattle.pir_client.proofs.MessageLists.{lists-from}
 -- ---- one ciphertext
 
 -- as the code draws it, of these messages
-pub column_drawn : (N : ℕ) (set : ParamSet) (secrets : Secrets) (messages worked : List Poly) (column : Cipher) (from to : Cursor) (old new : List Cipher) → N ≡ set.degree
+pub column_drawn : (N : ℕ) (set : ParamSet) (secrets : Secrets) (messages worked : List Poly) (column : Cipher) (from to : Cursor) (old new : List Cipher)
+    → N ≡ set.degree
     → length messages ≡ rows set → worked ≡ messages → column ≡ encrypted N from.words from.used (under N secrets set.pack) worked
     → to ≡ taken from (words_taken N (length worked)) → new ≡ old ++ column ∷ [] → ColumnsDrawn set secrets (λ _. messages ∷ []) from to old new
 column_drawn N set secrets messages worked column from to old new degree size is drawn at pushed =
@@ -32,11 +33,13 @@ column_drawn N set secrets messages worked column from to old new degree size is
 -- ---- a ciphertext for each place of a range
 
 -- none
-pub row_drawn-none : (N m a : ℕ) (secrets : List Poly) (f : ℕ → List Poly) (at : Cursor) (old : List Cipher) → Drawn N m secrets (map f (range_with_len a 0)) at at old old
+pub row_drawn-none : (N m a : ℕ) (secrets : List Poly) (f : ℕ → List Poly) (at : Cursor) (old : List Cipher)
+    → Drawn N m secrets (map f (range_with_len a 0)) at at old old
 row_drawn-none N m a secrets f at old = drawn-none N m secrets _ at old refl
 
 -- one more, of place j
-pub row_drawn-more : (N m a k j : ℕ) (secrets : List Poly) (f : ℕ → List Poly) (from mid to : Cursor) (old half new : List Cipher) → a + k ≡ j → ((i : ℕ) → length (f i) ≡ m)
+pub row_drawn-more : (N m a k j : ℕ) (secrets : List Poly) (f : ℕ → List Poly) (from mid to : Cursor) (old half new : List Cipher) → a + k ≡ j
+    → ((i : ℕ) → length (f i) ≡ m)
     → Drawn N m secrets (map f (range_with_len a k)) from mid old half → Drawn N m secrets (f j ∷ []) mid to half new
     → Drawn N m secrets (map f (range_with_len a (k + 1))) from to old new
 row_drawn-more N m a k j secrets f from mid to old half new place each so_far one =
@@ -44,8 +47,10 @@ row_drawn-more N m a k j secrets f from mid to old half new place each so_far on
     (map-range_with_len_more {X = List Poly} f a k j place) so_far one
 
 -- the words for one more
-pub row_drawn-room : (N m a k n : ℕ) (secrets : List Poly) (f : ℕ → List Poly) (from mid : Cursor) (old half : List Cipher) → k < n → ((i : ℕ) → length (f i) ≡ m)
-    → Drawn N m secrets (map f (range_with_len a k)) from mid old half → from.used + n * words_taken N m ≤ length from.words → mid.used + words_taken N m ≤ length mid.words
+pub row_drawn-room : (N m a k n : ℕ) (secrets : List Poly) (f : ℕ → List Poly) (from mid : Cursor) (old half : List Cipher) → k < n
+    → ((i : ℕ) → length (f i) ≡ m)
+    → Drawn N m secrets (map f (range_with_len a k)) from mid old half → from.used + n * words_taken N m ≤ length from.words
+    → mid.used + words_taken N m ≤ length mid.words
 row_drawn-room N m a k n secrets f from mid old half h each so_far enough =
     room from mid _ k n (words_taken N m) so_far.words (ap (λ (x : ℕ). x * words_taken N m) (lists-from m a k f each).many) h enough
 
@@ -57,7 +62,8 @@ pub pieces_drawn-none : (N m : ℕ) (secrets : List Poly) (f : ℕ → List (Lis
 pieces_drawn-none N m secrets f at old = drawn-none N m secrets _ at old refl
 
 -- those of one more place
-pub pieces_drawn-more : (N m count k : ℕ) (secrets : List Poly) (f : ℕ → List (List Poly)) (from mid to : Cursor) (old half new : List Cipher) → ((i : ℕ) → AreLists m count (f i))
+pub pieces_drawn-more : (N m count k : ℕ) (secrets : List Poly) (f : ℕ → List (List Poly)) (from mid to : Cursor) (old half new : List Cipher)
+    → ((i : ℕ) → AreLists m count (f i))
     → Drawn N m secrets (flat_map f (range_with_len 0 k)) from mid old half → Drawn N m secrets (f k) mid to half new
     → Drawn N m secrets (flat_map f (range_with_len 0 (k + 1))) from to old new
 pieces_drawn-more N m count k secrets f from mid to old half new each so_far one =
@@ -65,7 +71,8 @@ pieces_drawn-more N m count k secrets f from mid to old half new each so_far one
     (lists-pieces m count k f (λ i h. each i)) (flat_map-more f 0 k k (omega arith)) so_far one
 
 -- the words for those of one more place
-pub pieces_drawn-room : (N m count k n : ℕ) (secrets : List Poly) (f : ℕ → List (List Poly)) (from mid : Cursor) (old half : List Cipher) → k < n → ((i : ℕ) → AreLists m count (f i))
+pub pieces_drawn-room : (N m count k n : ℕ) (secrets : List Poly) (f : ℕ → List (List Poly)) (from mid : Cursor) (old half : List Cipher) → k < n
+    → ((i : ℕ) → AreLists m count (f i))
     → Drawn N m secrets (flat_map f (range_with_len 0 k)) from mid old half → from.used + n * (count * words_taken N m) ≤ length from.words
     → mid.used + count * words_taken N m ≤ length mid.words
 pieces_drawn-room N m count k n secrets f from mid old half h each so_far enough =
@@ -84,7 +91,8 @@ appended_drawn N m secrets messages from to drawn old new apart appended = recor
 
 -- all columns of a place
 pub place_drawn : (set : ParamSet) (secrets : Secrets) (index u k : ℕ) (from to : Cursor) (old new : List Cipher) → k ≡ rows set
-    → ColumnsDrawn set secrets (λ _. map (first_messages set index u) (range_with_len 1 k)) from to old new → ColumnsDrawn set secrets (λ _. first_columns set index u) from to old new
+    → ColumnsDrawn set secrets (λ _. map (first_messages set index u) (range_with_len 1 k)) from to old new
+    → ColumnsDrawn set secrets (λ _. first_columns set index u) from to old new
 unfolding first_columns
 place_drawn set secrets index u k from to old new all so_far =
     subst (λ (n : ℕ). ColumnsDrawn set secrets (λ _. map (first_messages set index u) (range_with_len 1 n)) from to old new) all so_far

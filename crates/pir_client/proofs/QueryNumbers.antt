@@ -1,5 +1,5 @@
 -- The numbers of the polynomial that an expanded query encrypts, as the code works them out, and its one ciphertext.
-use Rattle.std.proofs.Common.{◌≡◌, ◌≢◌, ℕ, suc, ◌+◌, ◌*◌, ◌/◌, ◌%◌, ◌^◌, ◌<◌, ◌≤◌, ◌==◌, nat_lt, if◌then◌else◌, Bool, true, false, ℤ, pos, List, [], ◌∷◌, ◌++◌, length, All, refl, sym, ◌∙◌, ap, subst, arith, eq-eqb, ne_eqb, lt-ltb, le-ltb}
+use Rattle.std.proofs.Common.{◌≡◌, ◌≢◌, ℕ, suc, ◌+◌, ◌*◌, ◌/◌, ◌%◌, ◌^◌, ◌<◌, ◌≤◌, ◌==◌, nat_lt, if◌then◌else◌, Bool, true, false, pos, List, [], ◌∷◌, ◌++◌, length, All, refl, sym, ◌∙◌, ap, subst, arith, eq-eqb, ne_eqb, lt-ltb, le-ltb}
 use Rattle.std.proofs.Math.Nat.{mul_assoc, mul_comm, zero-mul, zero-mod, pow-zero, pow-suc, mod-eq_of_lt}
 use Rattle.std.proofs.lemmas.Nat.{mul-mod_first}
 use Rattle.std.proofs.lemmas.List.Elements.{All-nil, All-cons, All-same}
@@ -112,24 +112,29 @@ one_row : (set : ParamSet) → set.direct ≡ false → query_rows set ≡ 1
 one_row set expands = rw expands refl
 
 -- its one message, as the code lists it
-pub one_message : (set : ParamSet) (index : ℕ) (read messages empty : List Poly) (a : Poly) → read ≡ messages → messages ≡ empty ++ a ∷ [] → empty ≡ [] → a ≡ query_poly set index
+pub one_message : (set : ParamSet) (index : ℕ) (read messages empty : List Poly) (a : Poly) → read ≡ messages → messages ≡ empty ++ a ∷ [] → empty ≡ []
+    → a ≡ query_poly set index
     → read ≡ query_poly set index ∷ []
 one_message set index read messages empty a same pushed none is =
     same ∙ pushed ∙ ap (λ (ms : List Poly). ms ++ a ∷ []) none ∙ ap (λ (b : Poly). b ∷ []) is
 
 -- as the code draws it
-pub one_drawn : (N degree : ℕ) (words : List ℕ) (start : ℕ) (secrets : ℕ → List Poly) (worked messages : List Poly) (cipher : Cipher) (ciphers : List Cipher) → N ≡ degree
+pub one_drawn : (N degree : ℕ) (words : List ℕ) (start : ℕ) (secrets : ℕ → List Poly) (worked messages : List Poly) (cipher : Cipher) (ciphers : List Cipher)
+    → N ≡ degree
     → worked ≡ messages → cipher ≡ encrypted N words start (secrets N) worked → ciphers ≡ cipher ∷ []
     → ciphers ≡ encrypted_all degree words start (secrets N) (messages ∷ [])
 unfolding encrypted_all
 one_drawn N degree words start secrets worked messages cipher ciphers same is drawn pushed =
-    pushed ∙ ap (λ (c : Cipher). c ∷ []) (drawn ∙ ap (encrypted N words start (secrets N)) is ∙ ap (λ (n : ℕ). encrypted n words start (secrets N) messages) same)
+    pushed ∙ ap (λ (c : Cipher). c ∷ []) (drawn ∙ ap (encrypted N words start (secrets N)) is
+    ∙ ap (λ (n : ℕ). encrypted n words start (secrets N) messages) same)
 
 -- One encryption of one message is the query of a set that expands.
-pub one-shape : (set : ParamSet) (words : List ℕ) (start : ℕ) (secrets messages : List Poly) (ciphers : List Cipher) → IsSet set → set.direct ≡ false → length secrets ≡ 1
+pub one-shape : (set : ParamSet) (words : List ℕ) (start : ℕ) (secrets messages : List Poly) (ciphers : List Cipher) → IsSet set → set.direct ≡ false
+    → length secrets ≡ 1
     → length messages ≡ 1 → ciphers ≡ encrypted_all set.degree words start secrets (messages ∷ []) → IsQuery (record { set = set; ciphers = ciphers })
 one-shape set words start secrets messages ciphers known expands many count drawn =
-    let each : All (λ x. length x ≡ 1) (messages ∷ []) = All-cons (λ (x : List Poly). length x ≡ 1) messages [] count (All-nil (λ (x : List Poly). length x ≡ 1)) in
+    let each : All (λ x. length x ≡ 1) (messages ∷ []) =
+    All-cons (λ (x : List Poly). length x ≡ 1) messages [] count (All-nil (λ (x : List Poly). length x ≡ 1)) in
     let shapes = all-ciphers set.degree 1 words start secrets (messages ∷ []) many each in
     record {
       known = known;

@@ -1,6 +1,5 @@
 -- The shape of a query's ciphertexts, and what `ask` sends.
 use Rattle.std.proofs.Common.{◌≡◌, ℕ, suc, ◌+◌, ◌-◌, ◌*◌, ◌<◌, ◌≤◌, Bool, true, false, List, [], ◌∷◌, Option, Some, None, length, get_or, take, if◌then◌else◌, All, refl, sym, ◌∙◌, ap, arith, subst}
-use Rattle.std.specs.Prelude.{IfSome}
 use Rattle.std.specs.List.{range_with_len, flat_map}
 use Rattle.std.proofs.lemmas.List.FromFn.{length-map-range_with_len}
 use Rattle.std.proofs.lemmas.List.Elements.{All-nil, All-cons, All-head, All-tail, All-same}
@@ -8,18 +7,18 @@ use Rattle.negacyclic.specs.Ring.{ring_mul, ring_add}
 use Rattle.negacyclic.proofs.Lengths.{length-ring_add, ring_add-below}
 use Rattle.ring_poly.proofs.Modulus.{q_some}
 use Rattle.spiral_sets.specs.declared.param_set.ParamSet.{ParamSet}
-use Rattle.spiral_sets.specs.Sets.{IsSet, IsBuilt, q, places, rows, has_keys}
+use Rattle.spiral_sets.specs.Sets.{IsSet, q, places, rows, has_keys}
 use Rattle.spiral_sets.specs.Counts.{firsts_count, words_needed}
 use Rattle.spiral_model.specs.Words.{Poly, Cipher}
 use Rattle.spiral_model.specs.Sampling.{uniform_poly, error_poly}
 use Rattle.spiral_model.specs.Ciphertexts.{encrypted_row, encrypted_rows, encrypted, encrypted_all, words_taken, IsCipher}
-use Rattle.spiral_model.specs.Bodies.{CipherBody, IsSetup, IsQuery, query_rows}
+use Rattle.spiral_model.specs.Bodies.{CipherBody, IsQuery, query_rows}
 use Rattle.spiral_model.specs.Keys.{lift_keys}
 use Rattle.spiral_model.specs.Answering.{ready_of}
-use Rattle.spiral_model.specs.Dealing.{scalar_secret, secret_rows, query_of, dealt_keys, key_body_of, query_body_of}
+use Rattle.spiral_model.specs.Dealing.{scalar_secret, secret_rows, query_of, dealt_keys, key_body_of}
 use Rattle.spiral_model.specs.Noise.{NoiseRow, noise_left, noise_right, report_row, report_of, FitsReport, dealt_report, Fits}
 use Rattle.spiral_model.specs.Queries.{first_columns, selection_columns, query_messages}
-use Rattle.spiral_frames.specs.Frames.{Spell, CanBeSent, setup_message, query_message, frame_of}
+use Rattle.spiral_frames.specs.Frames.{Spell, setup_message, query_message, frame_of}
 use Rattle.regev_code.specs.Seen.{Secrets, Cursor}
 use Rattle.regev_code.proofs.Draws.{drawn-more}
 use Rattle.regev_code.proofs.Samples.{uniform_poly-below, length-uniform_poly}
@@ -44,7 +43,8 @@ unfolding encrypted_row
 row-poly N a secret error message =
     let sum = ring_add q N (ring_mul q N secret a) error in (length-ring_add q N sum message, ring_add-below q N sum message q_some)
 
-rows-polys : (N : ℕ) (words : List ℕ) (start : ℕ) (a : Poly) (secrets messages : List Poly) → All (λ poly. IsPoly N poly) (encrypted_rows N words start a secrets messages)
+rows-polys : (N : ℕ) (words : List ℕ) (start : ℕ) (a : Poly) (secrets messages : List Poly)
+    → All (λ poly. IsPoly N poly) (encrypted_rows N words start a secrets messages)
 unfolding encrypted_rows
 rows-polys N words start a [] messages = All-nil (λ (poly : Poly). IsPoly N poly)
 rows-polys N words start a (s ∷ secrets) [] = All-nil (λ (poly : Poly). IsPoly N poly)
@@ -55,16 +55,19 @@ rows-polys N words start a (s ∷ secrets) (m ∷ messages) =
 encrypted-polys : (N : ℕ) (words : List ℕ) (start : ℕ) (secrets messages : List Poly) → All (λ poly. IsPoly N poly) (encrypted N words start secrets messages)
 unfolding encrypted
 encrypted-polys N words start secrets messages =
-    All-cons (λ (poly : Poly). IsPoly N poly) (uniform_poly N words start) (encrypted_rows N words (start + 2 * N) (uniform_poly N words start) secrets messages)
+    All-cons (λ (poly : Poly). IsPoly N poly) (uniform_poly N words start)
+    (encrypted_rows N words (start + 2 * N) (uniform_poly N words start) secrets messages)
     (length-uniform_poly N words start, uniform_poly-below N words start) (rows-polys N words (start + 2 * N) (uniform_poly N words start) secrets messages)
 
-encrypted-is : (N m : ℕ) (words : List ℕ) (start : ℕ) (secrets messages : List Poly) → length secrets ≡ m → length messages ≡ m → IsCipher N m (encrypted N words start secrets messages)
+encrypted-is : (N m : ℕ) (words : List ℕ) (start : ℕ) (secrets messages : List Poly) → length secrets ≡ m → length messages ≡ m
+    → IsCipher N m (encrypted N words start secrets messages)
 encrypted-is N m words start secrets messages many count = record {
   rows_count = length-encrypted N words start secrets messages (count ∙ sym many) ∙ ap (λ (n : ℕ). n + 1) count;
   residues = encrypted-polys N words start secrets messages;
 }
 
-pub length-encrypted_all : (N : ℕ) (words : List ℕ) (start : ℕ) (secrets : List Poly) (xs : List (List Poly)) → length (encrypted_all N words start secrets xs) ≡ length xs
+pub length-encrypted_all : (N : ℕ) (words : List ℕ) (start : ℕ) (secrets : List Poly) (xs : List (List Poly))
+    → length (encrypted_all N words start secrets xs) ≡ length xs
 unfolding encrypted_all
 length-encrypted_all N words start secrets [] = refl
 length-encrypted_all N words start secrets (x ∷ xs) = ap (λ (n : ℕ). suc n) (length-encrypted_all N words (start + words_taken N (length x)) secrets xs)
@@ -83,7 +86,8 @@ query_rows-are : (set : ParamSet) → set.direct ≡ true → query_rows set ≡
 query_rows-are set direct = rw direct refl
 
 -- Encryptions of a direct set's messages, in their number and shape.
-pub query-shape : (set : ParamSet) (words : List ℕ) (start : ℕ) (secrets : List Poly) (index : ℕ) (ciphers : List Cipher) → IsSet set → set.direct ≡ true → length secrets ≡ rows set
+pub query-shape : (set : ParamSet) (words : List ℕ) (start : ℕ) (secrets : List Poly) (index : ℕ) (ciphers : List Cipher) → IsSet set → set.direct ≡ true
+    → length secrets ≡ rows set
     → ciphers ≡ encrypted_all set.degree words start secrets (query_messages set secrets index) → IsQuery (record { set = set; ciphers = ciphers })
 query-shape set words start secrets index ciphers is direct many drawn =
     let lists = query-lists set secrets index direct in
@@ -106,7 +110,8 @@ pub parts_drawn : (set : ParamSet) (secrets : Secrets) (index : ℕ) (from mid t
 unfolding query_messages
 parts_drawn set secrets index from mid to old half new firsts selections =
     let s = row_secrets_of set secrets in
-    drawn-more set.degree (rows set) (firsts_count set) s (flat_map (first_columns set index) (range_with_len 0 (places set))) (flat_map (selection_columns set s index) (range_with_len 0 set.nu2))
+    drawn-more set.degree (rows set) (firsts_count set) s (flat_map (first_columns set index) (range_with_len 0 (places set)))
+    (flat_map (selection_columns set s index) (range_with_len 0 set.nu2))
     (query_messages set s index) from mid to old half new (firsts-lists set index) refl firsts selections
 
 -- ---- its noise
@@ -116,10 +121,12 @@ pub length-dealt : (set : ParamSet) (words : List ℕ) (index : ℕ) → length 
 unfolding dealt_report report_of
 length-dealt set words index =
     length-map-range_with_len
-    (report_row set (scalar_secret set words) (secret_rows set words) index (lift_keys (dealt_keys set words)) (ready_of set (dealt_keys set words) (query_of set words index))) 0 set.n
+    (report_row set (scalar_secret set words) (secret_rows set words) index (lift_keys (dealt_keys set words))
+    (ready_of set (dealt_keys set words) (query_of set words index))) 0 set.n
 
 -- The row that misses first, as it is told.
-pub first-miss : (set : ParamSet) (rows : List NoiseRow) (report : Report) (place : ℕ) (row : RowReport) → IsSet set → IsReport set rows report → LeastMiss report place
+pub first-miss : (set : ParamSet) (rows : List NoiseRow) (report : Report) (place : ℕ) (row : RowReport) → IsSet set → IsReport set rows report
+    → LeastMiss report place
     → row ≡ get_or report.rows.items place row → FirstMiss set rows row.row row.noise
 first-miss set rows report place row known is miss read =
     let within : place < length rows = miss_within set rows report known is place miss in
@@ -134,38 +141,13 @@ first-miss set rows report place row known is miss read =
       noise_is = ap (λ (k : ℕ). (row_at rows k).noise) back;
     })
 
--- What was dealt can be sent: the query,
-pub dealt-sendable : (set : ParamSet) (index : ℕ) (words : List ℕ) (dealt : Dealt) → IsBuilt set → IsDealt set index words dealt → CanBeSent (query_message dealt.query)
-unfolding query_body_of
-dealt-sendable set index words dealt built is =
-    let of_set : set ≡ dealt.query.set = sym (ap (λ (b : CipherBody). b.set) is.query) in (subst IsBuilt of_set built, is.shape)
-
--- the keys of an option that is there
-body_there : (has : Bool) (body other : CipherBody) → Some body ≡ (if has then Some other else None) → body ≡ other
-body_there true body other h = cc
-body_there false body other h = absurd (cc)
-
--- and the keys,
-keys-sendable-by : (set : ParamSet) (words : List ℕ) (setup : Option CipherBody) → IsBuilt set → setup ≡ setup_body set words → IfSome setup (λ body. IsSetup body)
-    → IfSome setup (λ body. CanBeSent (setup_message body))
-unfolding setup_body key_body_of
-keys-sendable-by set words None built is shape = tt
-keys-sendable-by set words (Some body) built is shape =
-    let same = body_there (has_keys set) body (key_body_of set words) is in
-    let of_set : set ≡ body.set = sym (ap (λ (b : CipherBody). b.set) same) in (subst IsBuilt of_set built, shape)
-
-pub keys-sendable : (set : ParamSet) (index : ℕ) (words : List ℕ) (dealt : Dealt) (sent : Option CipherBody) → IsBuilt set → IsDealt set index words dealt → sent ≡ dealt.setup
-    → IfSome sent (λ body. CanBeSent (setup_message body))
-keys-sendable set index words dealt sent built is same =
-    subst (λ (setup : Option CipherBody). IfSome setup (λ body. CanBeSent (setup_message body))) (sym same)
-    (keys-sendable-by set words dealt.setup built is.setup is.keys)
-
 frame_where : (has : Bool) (body : CipherBody) → frame_if_any (if has then Some body else None) ≡ (if has then frame_of (setup_message body) else [])
 frame_where true body = refl
 frame_where false body = refl
 
--- whose frame is that of the words.
-pub keys-framed : (set : ParamSet) (index : ℕ) (words : List ℕ) (dealt : Dealt) (sent : Option CipherBody) (bytes : List ℕ) → IsDealt set index words dealt → sent ≡ dealt.setup
+-- The frame of the keys that were dealt is that of the words.
+pub keys-framed : (set : ParamSet) (index : ℕ) (words : List ℕ) (dealt : Dealt) (sent : Option CipherBody) (bytes : List ℕ) → IsDealt set index words dealt
+    → sent ≡ dealt.setup
     → bytes ≡ frame_if_any sent → bytes ≡ setup_frame set words
 unfolding setup_body setup_frame
 keys-framed set index words dealt sent bytes is same framed =

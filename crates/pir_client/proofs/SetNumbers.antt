@@ -1,8 +1,8 @@
 -- How many words and ciphertexts the query of a set takes, and whether it is sent or expanded.
-use Rattle.std.proofs.Common.{◌≡◌, ℕ, ◌+◌, ◌*◌, ◌||◌, not, Bool, true, false, if◌then◌else◌, List, [], ◌∷◌, refl, ◌∙◌, ap, arith}
+use Rattle.std.proofs.Common.{◌≡◌, ℕ, ◌+◌, ◌*◌, ◌||◌, not, Bool, true, false, if◌then◌else◌, List, [], ◌∷◌, refl, sym, ◌∙◌, ap, arith}
 use Rattle.std.proofs.lemmas.Bool.{true≢false}
 use Rattle.spiral_sets.specs.declared.param_set.ParamSet.{ParamSet}
-use Rattle.spiral_sets.specs.Sets.{IsBuilt, rows, has_keys}
+use Rattle.spiral_sets.specs.Sets.{rows, has_keys}
 use Rattle.spiral_sets.specs.Counts.{firsts_count, gsw_count, ciphertext_count, query_ciphertexts, words_of}
 use Rattle.spiral_model.specs.Words.{Cipher}
 use Rattle.spiral_model.specs.Ciphertexts.{words_taken, encrypted_all}
@@ -11,10 +11,6 @@ use Rattle.spiral_model.specs.Dealing.{scalar_secret, row_secrets, query_words, 
 
 parts-words : (a b T : ℕ) → (a + b) * T ≡ a * T + b * T
 parts-words a b T = omega arith
-
--- a set that this program handles doesn't pack
-pub built-plain : (set : ParamSet) → IsBuilt set → set.pack ≡ false
-built-plain set built = built
 
 -- the words of the first dimension and those of the selections
 pub query_words-are : (set : ParamSet) → set.direct ≡ true
@@ -67,10 +63,20 @@ has_keys-by false pack expands = refl
 pub expanding-keys : (set : ParamSet) → set.direct ≡ false → has_keys set ≡ true
 expanding-keys set expands = has_keys-by set.direct set.pack expands
 
-no_keys-by : (direct pack : Bool) → (not direct || pack) ≡ false → direct ≡ true
-no_keys-by true pack none = refl
+packed-by : (direct pack : Bool) → pack ≡ true → (not direct || pack) ≡ true
+packed-by direct false packs = absurd (true≢false (sym packs))
+packed-by true true packs = refl
+packed-by false true packs = refl
+
+-- and so has one that packs;
+pub packing-keys : (set : ParamSet) → set.pack ≡ true → has_keys set ≡ true
+packing-keys set packs = packed-by set.direct set.pack packs
+
+no_keys-by : (direct pack : Bool) → (not direct || pack) ≡ false → (direct ≡ true) × (pack ≡ false)
+no_keys-by true true none = absurd (true≢false none)
+no_keys-by true false none = (refl, refl)
 no_keys-by false pack none = absurd (true≢false none)
 
--- and one without keys sends them
-pub keyless-direct : (set : ParamSet) → has_keys set ≡ false → set.direct ≡ true
-keyless-direct set none = no_keys-by set.direct set.pack none
+-- one without keys does neither.
+pub keyless-kind : (set : ParamSet) → has_keys set ≡ false → (set.direct ≡ true) × (set.pack ≡ false)
+keyless-kind set none = no_keys-by set.direct set.pack none

@@ -1,8 +1,8 @@
 ghost use Rattle.std.specs.Prelude.{◌≡◌, take, IfOk, IfSome, MatchResult};
 ghost use Rattle.std.specs.Option.{option_copied};
-ghost use Rattle.spiral_sets.specs.Sets.{IsSet, IsBuilt};
+ghost use Rattle.spiral_sets.specs.Sets.{IsSet};
 ghost use Rattle.spiral_sets.specs.Counts.{words_needed};
-ghost use Rattle.spiral_frames.specs.Frames.{CanBeSent, setup_message};
+ghost use Rattle.spiral_model.specs.Bodies.{IsSetup};
 ghost use Rattle.pir_client.specs.Asks.{Asks, IsAsked, MayAsk, Measures, frame_if_any};
 
 use crate::dealing::deal;
@@ -71,7 +71,7 @@ fn check_words(set: &ParamSet, index: u32, words: &[u64]) -> Result<(), AskError
 
 /// The Setup frame of the keys, where there are any; else no bytes.
 fn setup_bytes(alloc: Global, setup: Option<&KeyBody>) -> Result<Vec<u8>, NoMemory>
-    requires { IfSome (option_copied setup) (λ body. CanBeSent (setup_message body)) }
+    requires { IfSome (option_copied setup) (λ body. IsSetup body) }
     ensures { IfOk result (λ bytes. bytes.items ≡ frame_if_any (option_copied setup.entry)) }
 {
     match setup {
@@ -87,7 +87,6 @@ fn setup_bytes(alloc: Global, setup: Option<&KeyBody>) -> Result<Vec<u8>, NoMemo
 /// the needed ones change nothing.
 pub fn ask(alloc: Global, set: &ParamSet, index: u32, words: &[u64]) -> Result<Asked, AskError>
     requires known { IsSet set.now }
-    requires built { IsBuilt set.now }
     ensures asks { Asks set.now index words.now result }
     ensures front { IfOk result (λ asked. IsAsked set.now index (take (words_needed set.now) words.now) asked) }
 {
@@ -118,7 +117,6 @@ pub fn measure_for(
     words: &[u64],
 ) -> Result<Report, AskError>
     requires known { IsSet set.now }
-    requires built { IsBuilt set.now }
     ensures measures { Measures set.now index words.now result }
 {
     check_words(set, index, words)?;

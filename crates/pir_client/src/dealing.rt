@@ -1,4 +1,4 @@
-ghost use Rattle.std.specs.Prelude.{◌≡◌, ◌<◌, ◌≤◌, ℕ, List, true, false, length, IfOk, IfSome, OnOk};
+ghost use Rattle.std.specs.Prelude.{◌≡◌, ◌<◌, ◌≤◌, true, length, IfOk, IfSome, OnOk};
 ghost use Rattle.std.specs.Option.{option_map, option_copied};
 ghost use Rattle.spiral_sets.specs.Sets.{IsSet, max_records, rows, has_keys};
 ghost use Rattle.spiral_sets.specs.Counts.{secret_words, words_needed};
@@ -7,9 +7,9 @@ ghost use Rattle.spiral_model.specs.Keys.{keys_in, lift_keys};
 ghost use Rattle.spiral_model.specs.Answering.{ready_of};
 ghost use Rattle.spiral_model.specs.Noise.{report_of};
 ghost use Rattle.spiral_model.specs.Dealing.{query_words, query_body_of};
-ghost use Rattle.regev_code.specs.Shapes.{OfDegree, secrets_from};
+ghost use Rattle.regev_code.specs.Shapes.{OfDegree, secrets_from, scalar_of};
 ghost use Rattle.gsw_code.specs.Columns.{row_secrets_of};
-ghost use Rattle.query_expand.specs.AskedKeys.{AreKeysFor};
+ghost use Rattle.regev_code.specs.KeyShapes.{AreKeysFor};
 ghost use Rattle.noise_check.specs.Reports.{IsReport};
 ghost use Rattle.pir_client.specs.Asks.{IsDealt, setup_body};
 
@@ -72,7 +72,6 @@ fn deal_query(
     draw: &mut Draw<'_>,
 ) -> Result<QueryBody, NoMemory>
     requires known { IsSet set.now }
-    requires plain { set.now.pack ≡ false }
     requires ring { ring.now ≡ set.now.degree }
     requires degree { OfDegree ring.now secret.now }
     requires secret { secret.now ≡ secrets_from set.now draw.old.words 0 }
@@ -114,14 +113,14 @@ fn noise_of(
     keys: Option<&EvalKeys>,
 ) -> Result<Report, NoMemory>
     requires known { IsSet set.now }
-    requires plain { set.now.pack ≡ false }
     requires ring { ring.now ≡ set.now.degree }
     requires degree { OfDegree ring.now secret.now }
     requires secrets { length (row_secrets_of set.now secret.now) ≡ rows set.now }
+    requires rows { length secret.now.rows ≡ set.now.n }
     requires set { query.now.set ≡ set.now }
     requires query { IsQuery query.now }
     requires keys { AreKeysFor set.now (option_copied keys) }
-    ensures { IfOk result (λ report. (s : List ℕ) → IsReport set.now (report_of set.now s secret.now.rows index (lift_keys (option_copied keys.entry)) (ready_of set.now (option_copied keys.entry) query.now.ciphers)) report) }
+    ensures { IfOk result (λ report. IsReport set.now (report_of set.now (scalar_of set.now.degree secret.now) secret.now.rows index (lift_keys (option_copied keys.entry)) (ready_of set.now (option_copied keys.entry) query.now.ciphers)) report) }
 {
     let mut scratch = Scratch::new(alloc, set)?;
     let ready = ready(alloc, ring, set, keys, query, &mut scratch)?;
@@ -137,7 +136,6 @@ pub(crate) fn deal(
     words: &[u64],
 ) -> Result<Dealt, NoMemory>
     requires known { IsSet set.now }
-    requires plain { set.now.pack ≡ false }
     requires index { index < max_records set.now }
     requires words { words_needed set.now ≤ length words.now }
     ensures { IfOk result (λ dealt. IsDealt set.now index words.now dealt) }

@@ -1,5 +1,6 @@
 -- One polynomial of a reply put: an entry of the body, or one of row 0.
-use Rattle.std.proofs.Common.{◌≡◌, ℕ, ◌+◌, ◌-◌, ◌*◌, ◌/◌, ◌%◌, ◌<◌, ◌≢◌, ◌==◌, if◌then◌else◌, Bool, false, List, [], length, get_or, set, map, ◌∙◌, ap, arith, ne_eqb}
+use Rattle.std.proofs.Common.{◌≡◌, ℕ, ◌+◌, ◌-◌, ◌*◌, ◌/◌, ◌%◌, ◌<◌, ◌≢◌, ◌==◌, if◌then◌else◌, Bool, false, List, [], length, get_or, set, map}
+use Rattle.std.proofs.Common.{◌∙◌, ap, arith, ne_eqb}
 use Rattle.std.proofs.lemmas.List.{get_or_read}
 use Rattle.spiral_sets.specs.declared.param_set.ParamSet.{ParamSet}
 use Rattle.spiral_model.specs.Sets.{q1, q2}
@@ -28,12 +29,13 @@ entry_put s columns old new e row column cipher a same some row_is column_is wit
     let read : cipher ≡ cipher_at columns (e % s.n) = get_or_read columns (e % s.n) cipher within is [] in
     let value : a ≡ row_of (cipher_at columns (e % s.n)) (e / s.n + 1) =
     from ∙ ap (λ (r : ℕ). row_of cipher r) row_is ∙ ap (λ (c : Cipher). row_of c (e / s.n + 1)) read in
+    let entry : Poly = map (switched (q1 s)) (row_of (cipher_at columns (e % s.n)) (e / s.n + 1)) in
     put
     ∙ ap (λ (m : ℕ). put_poly old row column (map (switched m) a)) modulus
     ∙ ap (λ (x : Poly). put_poly old row column (map (switched (q1 s)) x)) value
-    ∙ ap (λ (t : Bool). if t then record old { mask = set old.mask (column - 1) (map (switched (q1 s)) (row_of (cipher_at columns (e % s.n)) (e / s.n + 1))) }
-    else record old { body = set old.body (place_in_body old.set row column) (map (switched (q1 s)) (row_of (cipher_at columns (e % s.n)) (e / s.n + 1))) }) tested
-    ∙ ap (λ (k : ℕ). record old { body = set old.body k (map (switched (q1 s)) (row_of (cipher_at columns (e % s.n)) (e / s.n + 1))) }) place
+    ∙ ap (λ (t : Bool). if t then record old { mask = set old.mask (column - 1) entry }
+    else record old { body = set old.body (place_in_body old.set row column) entry }) tested
+    ∙ ap (λ (k : ℕ). record old { body = set old.body k entry }) place
 
 pub zeroth_put : (s : ParamSet) (columns : List Cipher) (old new : SwitchedReply) (c : ℕ) (cipher : Cipher) (a : Poly) → old.set ≡ s
     → c < length columns → cipher ≡ get_or columns c cipher → a ≡ row_of cipher 0

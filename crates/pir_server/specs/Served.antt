@@ -1,7 +1,7 @@
 -- How contracts see a server, and what it keeps.
 use Rattle.std.specs.Prelude.{ℕ, List, ◌≡◌, ◌+◌, ◌*◌, ◌^◌, ◌≤◌, length, All}
 use Rattle.spiral_sets.specs.declared.param_set.ParamSet.{ParamSet}
-use Rattle.spiral_model.specs.Sets.{IsSet, IsBuilt, rows, columns}
+use Rattle.spiral_model.specs.Sets.{IsSet, rows, columns}
 use Rattle.spiral_model.specs.Databases.{RecordTable, matrices_of}
 use Rattle.regev_code.specs.Products.{HasShape}
 use Rattle.first_dim.specs.Preparations.{PreparedRecords}
@@ -15,7 +15,6 @@ pub record Served : Type 0 where
 -- worker, and room for the ciphertexts of the first dimension.
 pub record IsServed (table : RecordTable) (prepared : PreparedRecords) (ring : ℕ) (scratch : List ParamSet) (outputs : List (List (List ℕ))) : Type 0 where
   pub known : IsSet table.set
-  pub built : IsBuilt table.set
   pub same : prepared ≡ record { set = table.set; matrices = matrices_of table }
   pub degree : ring ≡ table.set.degree
   pub some : 1 ≤ length scratch

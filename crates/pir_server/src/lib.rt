@@ -3,6 +3,7 @@
 
 mod answering;
 mod folding;
+mod results;
 mod server;
 
 pub use server::Server;

@@ -1,13 +1,14 @@
 ghost use Rattle.std.specs.Prelude.{true, ◌≡◌, ◌≤◌, IfOk};
 ghost use Rattle.std.specs.Option.{option_copied};
-ghost use Rattle.spiral_model.specs.Sets.{IsBuilt, has_keys};
+ghost use Rattle.spiral_model.specs.Sets.{has_keys};
 ghost use Rattle.spiral_model.specs.Bodies.{IsSetup, IsQuery};
 ghost use Rattle.spiral_model.specs.Keys.{keys_in};
 ghost use Rattle.spiral_model.specs.Answering.{ready_of, answer_of};
-ghost use Rattle.query_expand.specs.AskedKeys.{AreKeysFor};
+ghost use Rattle.regev_code.specs.KeyShapes.{AreKeysFor};
 
-use crate::answering::{blank_reply, fill_reply, scratches, zero_outputs};
+use crate::answering::{blank_reply, scratches, zero_outputs};
 use crate::folding::work_out;
+use crate::results::put_result;
 use first_dim::Prepared;
 use modulus_switch::Reply;
 use no_memory::NoMemory;
@@ -67,7 +68,6 @@ impl Server {
         db: Database,
         workers: u32,
     ) -> Result<Server, NoMemory>
-        requires built { IsBuilt db.set }
         requires some { 1 ≤ workers }
         requires few { workers ≤ 64 }
         ensures { IfOk result (λ server. server ≡ record { table = db; workers = workers }) }
@@ -103,7 +103,8 @@ impl Server {
     }
 
     /// The answer to a query, which a set that isn't direct expands by its keys: the first dimension over the database, folded by the
-    /// query's selections, and switched to the small moduli of a reply. The same for each number of workers.
+    /// query's selections, packed by the lift keys where the set packs, and switched to the small moduli of a reply. The same for each
+    /// number of workers. An error says that memory was wanting.
     pub fn answer<R: Threads + Sync, G: Gate>(
         &mut self,
         rt: &R,
@@ -131,7 +132,9 @@ impl Server {
             &mut self.scratch,
             gate,
         );
-        fill_reply(&set, &self.outputs[..set.n as usize], &mut reply);
+        let folded = &self.outputs[..set.columns() as usize];
+        let room = &mut self.scratch[0];
+        put_result(self.alloc, &self.ring, &set, keys, folded, &mut reply, room)?;
         Ok(reply)
     }
 }

@@ -8,7 +8,7 @@ use Rattle.std.specs.List.{starts_with}
 use borrow.Author.Count.{below_more}
 use Rattle.spiral_sets.specs.declared.param_set.ParamSet.{ParamSet}
 use Rattle.spiral_sets.specs.declared.sets.TheConstants.{SETS}
-use Rattle.spiral_sets.specs.Sets.{IsSet, IsBuilt}
+use Rattle.spiral_sets.specs.Sets.{IsSet}
 use Rattle.spiral_sets.specs.Counts.{setup_len, query_len}
 use Rattle.spiral_sets.proofs.SetBounds.{at_most}
 use Rattle.spiral_sets.proofs.SetNames.{state_len-most, reply_len-most}
@@ -35,17 +35,17 @@ body_len-most Database set is = omega arith
 
 -- ---- what the test of the bytes' front tells
 
-module _ (kind : FrameKind) (set : ParamSet) (bytes written : List ℕ) (starts : Bool) (e : written ≡ header_of kind set) (is : starts ≡ starts_with nat_eq bytes written) where
-  pub begun : IsSet set → IsBuilt set → length written ≤ length bytes → starts ≡ true → BeginsWith kind bytes set (length written)
-  begun known built within told = record {
+module _ (kind : FrameKind) (set : ParamSet) (bytes written : List ℕ) (starts : Bool) (e : written ≡ header_of kind set)
+    (is : starts ≡ starts_with nat_eq bytes written) where
+  pub begun : IsSet set → length written ≤ length bytes → starts ≡ true → BeginsWith kind bytes set (length written)
+  begun known within told = record {
     known = known;
-    built = built;
     within = within;
     front = (starts_is Decides-eqb bytes written starts is).0 told ∙ ap (λ (h : List ℕ). h ++ drop (length written) bytes) e;
   }
 
   pub not_begun : starts ≡ false → HasOtherFront kind bytes set
-  not_begun told built body front =
+  not_begun told body front =
       let yes : starts ≡ true = (starts_is Decides-eqb bytes written starts is).1 body (front ∙ ap (λ (h : List ℕ). h ++ body) (sym e)) in
       cc
 

@@ -49,7 +49,8 @@ AreEntries set bytes polys = AreSpelled (IsSwitched set.degree (q1 set)) (packed
 abbrev AreMask : ParamSet → List ℕ → List Poly → Type 0
 AreMask set bytes polys = AreSpelled (IsSwitched set.degree (q2 set)) (packed set set.q2_bits) set.n bytes polys
 
-module _ (set : ParamSet) (body : List ℕ) (w count middle : ℕ) (w_is : w ≡ q1_bits set) (count_is : count ≡ entries set) (middle_is : middle ≡ 16 + count * (set.degree * w / 8)) where
+module _ (set : ParamSet) (body : List ℕ) (w count middle : ℕ) (w_is : w ≡ q1_bits set) (count_is : count ≡ entries set)
+    (middle_is : middle ≡ 16 + count * (set.degree * w / 8)) where
   abbrev front : List ℕ
   front = take (middle - 16) (drop 16 body)
 

@@ -14,7 +14,8 @@ use Rattle.pir_wire.specs.Pieces.{AreCiphersAt}
 -- ---- the bytes of a run
 
 -- as the program cuts them out
-pub run_bytes : (bytes : List ℕ) (start len count size : ℕ) → len ≡ count * size → take (start + len - start) (drop start bytes) ≡ take (count * size) (drop start bytes)
+pub run_bytes : (bytes : List ℕ) (start len count size : ℕ) → len ≡ count * size
+    → take (start + len - start) (drop start bytes) ≡ take (count * size) (drop start bytes)
 run_bytes bytes start len count size e =
     let front : start + len - start ≡ count * size = omega (arith, e) in ap (λ (n : ℕ). take n (drop start bytes)) front
 
@@ -96,7 +97,8 @@ module _ (set : ParamSet) (body : List ℕ) where
     unfolding cipher_bytes
     conversions_of_setup =
         let runs = runs_of_setup keys is.kept in
-        subst (λ (s : ParamSet). AreCiphersAt s.degree (rows s) (conversions_count s) body (rounds_len s + lifts_len s) (conversions_of keys)) is.set_is (record {
+        let given : ParamSet → Type 0 = λ s. AreCiphersAt s.degree (rows s) (conversions_count s) body (rounds_len s + lifts_len s) (conversions_of keys) in
+        subst given is.set_is (record {
           many = runs.conversions_many;
           fit = runs.conversions_fit;
           spelled =
@@ -112,6 +114,6 @@ pub degrees_fit : (keys inside : CipherBody) (ciphers : List Cipher) (numbers : 
 degrees_fit keys inside ciphers numbers seen is ciphers_are zeros =
     let size : length numbers ≡ keys.set.degree =
     ap length zeros ∙ length-replicate {A = ℕ} inside.set.degree 0 ∙ ap (λ (k : CipherBody). k.set.degree) seen in
-    let all = subst (λ (cs : List Cipher). All (λ cipher. All (λ poly. length poly ≡ keys.set.degree) cipher) cs) (sym (ciphers_are ∙ ap (λ (k : CipherBody). k.ciphers) seen))
-    (setup_degrees keys is) in
+    let same : ciphers ≡ keys.ciphers = ciphers_are ∙ ap (λ (k : CipherBody). k.ciphers) seen in
+    let all = subst (λ (cs : List Cipher). All (λ cipher. All (λ poly. length poly ≡ keys.set.degree) cipher) cs) (sym same) (setup_degrees keys is) in
     λ i d h k e g. all i d h k e g ∙ sym size

@@ -10,7 +10,7 @@ use Rattle.spiral_sets.specs.Counts.{state_len, reply_len}
 use Rattle.frame_headers.specs.Headers.{header, number}
 use Rattle.spiral_model.specs.Words.{Poly, poly_of}
 use Rattle.spiral_model.specs.Replies.{QueryState, SwitchedReply}
-use Rattle.spiral_frames.specs.Frames.{secret_byte, packed, state_body, reply_body, frame_of, state_message, reply_message, CanBeSent}
+use Rattle.spiral_frames.specs.Frames.{secret_byte, packed, state_body, reply_body, frame_of, state_message, reply_message, IsMessage}
 use Rattle.spiral_frames.proofs.FrameLaws.{state_frame_is, reply_frame_is}
 
 -- 8 bytes of a number
@@ -18,26 +18,27 @@ eight_bytes : (x y : ℕ) (bytes : List ℕ) → bytes ≡ to_le_bytes w64 x →
 eight_bytes x y bytes e same = e ∙ ap (to_le_bytes w64) same ∙ to_le_bytes-digits w64 y
 
 -- the frame of a state
-pub state_spelled : (state : QueryState) (index : ℕ) (o1 o2 o3 tail : List ℕ) → CanBeSent (state_message state)
-    → o1 ≡ header 5 state.set (state_len state.set) → tail ≡ to_le_bytes w64 index → index ≡ state.index → o2 ≡ o1 ++ tail → o3 ≡ o2 ++ map secret_byte state.secret
+pub state_spelled : (state : QueryState) (index : ℕ) (o1 o2 o3 tail : List ℕ) → IsMessage (state_message state)
+    → o1 ≡ header 5 state.set (state_len state.set) → tail ≡ to_le_bytes w64 index → index ≡ state.index → o2 ≡ o1 ++ tail
+    → o3 ≡ o2 ++ map secret_byte state.secret
     → o3 ≡ frame_of (state_message state)
 unfolding state_body
-state_spelled state index o1 o2 o3 tail fits e1 et ei e2 e3 =
+state_spelled state index o1 o2 o3 tail is e1 et ei e2 e3 =
     let eight : tail ≡ number 8 state.index = eight_bytes index state.index tail et ei in
     rw (e3, e2, e1, eight) (append_assoc (header 5 state.set (state_len state.set)) (number 8 state.index) (map secret_byte state.secret))
-    ∙ sym (state_frame_is state fits)
+    ∙ sym (state_frame_is state is)
 
 -- the frame of a reply
-pub reply_spelled : (reply : SwitchedReply) (count record_length : ℕ) (o1 o2 o3 o4 o5 b1 b2 : List ℕ) → CanBeSent (reply_message reply)
+pub reply_spelled : (reply : SwitchedReply) (count record_length : ℕ) (o1 o2 o3 o4 o5 b1 b2 : List ℕ) → IsMessage (reply_message reply)
     → o1 ≡ header 3 reply.set (reply_len reply.set) → b1 ≡ to_le_bytes w64 count → count ≡ reply.count → o2 ≡ o1 ++ b1
     → b2 ≡ to_le_bytes w64 record_length → record_length ≡ reply.record_length → o3 ≡ o2 ++ b2
     → o4 ≡ o3 ++ flat_map (packed reply.set (q1_bits reply.set)) reply.body → o5 ≡ o4 ++ flat_map (packed reply.set reply.set.q2_bits) reply.mask
     → o5 ≡ frame_of (reply_message reply)
 unfolding reply_body
-reply_spelled reply count record_length o1 o2 o3 o4 o5 b1 b2 fits e1 eb1 ec e2 eb2 el e3 e4 e5 =
+reply_spelled reply count record_length o1 o2 o3 o4 o5 b1 b2 is e1 eb1 ec e2 eb2 el e3 e4 e5 =
     let first = eight_bytes count reply.count b1 eb1 ec in
     let second = eight_bytes record_length reply.record_length b2 eb2 el in
-    rw (e5, e4, e3, e2, e1, first, second) (simp append_assoc) ∙ sym (reply_frame_is reply fits)
+    rw (e5, e4, e3, e2, e1, first, second) (simp append_assoc) ∙ sym (reply_frame_is reply is)
 
 -- one more polynomial behind the first k
 pub polys_more : (f : Poly → List ℕ) (polys : List Poly) (k : ℕ) (start before after : List ℕ) (numbers : Poly) → k < length polys → numbers ≡ poly_of polys k

@@ -1,7 +1,7 @@
 -- Whole frames, by their header and their body.
 use Rattle.std.proofs.Common.{ℕ, List, ◌≡◌, ◌<◌, ◌↔◌, ◌++◌, length, take, drop, Option, Some, None, Result, Ok, Err, IfOk, IfNone, sym, ◌∙◌, ap, subst, arith}
 use Rattle.spiral_sets.specs.declared.param_set.ParamSet.{ParamSet}
-use Rattle.spiral_sets.specs.Sets.{IsSet, IsBuilt}
+use Rattle.spiral_sets.specs.Sets.{IsSet}
 use Rattle.frame_headers.specs.declared.kind.FrameKind.{FrameKind}
 use Rattle.frame_headers.specs.declared.kind.FrameKind.TheVariants.{Setup, Query, Reply, Refuse, State, Database}
 use Rattle.frame_headers.specs.Kinds.{code_of_kind, body_len_of}
@@ -10,7 +10,7 @@ use Rattle.frame_headers.proofs.HeaderLaws.{length-header, same_front}
 use Rattle.spiral_model.specs.Bodies.{CipherBody}
 use Rattle.spiral_model.specs.Replies.{QueryState, SwitchedReply}
 use Rattle.spiral_model.specs.Databases.{RecordTable}
-use Rattle.spiral_frames.specs.Frames.{Message, PeerRefusal, setup_message, query_message, reply_message, refuse_message, state_message, database_message, kind_of, set_of_message, body_of, frame_of, IsMessage, CanBeSent, IsOne}
+use Rattle.spiral_frames.specs.Frames.{Message, PeerRefusal, setup_message, query_message, reply_message, refuse_message, state_message, database_message, kind_of, set_of_message, body_of, frame_of, IsMessage, IsOne}
 use Rattle.spiral_frames.proofs.FrameLaws.{frame_is, known_of, length-frame, only_front}
 use Rattle.spiral_frames.proofs.Bodies.{length-query_body, length-state_body, length-reply_body}
 use Rattle.spiral_frames.proofs.SetupBodies.{length-setup_body}
@@ -73,7 +73,7 @@ module _ (kind : FrameKind) (one : HasOneLength kind) (m : Message) (kind_is : k
       one_of_body is = record {
         kind_is = kind_is;
         spells = record {
-          fits = (subst IsBuilt (sym is.set_is) begins.built, is.kept);
+          is = is.kept;
           spelled =
               begins.front ∙ ap (λ (s : ParamSet). header_of kind s ++ drop start bytes) (sym is.set_is)
               ∙ ap (λ (body : List ℕ). header_of kind (set_of_message m) ++ body) is.spelled ∙ sym (frame_by_kind is.kept);
@@ -82,24 +82,26 @@ module _ (kind : FrameKind) (one : HasOneLength kind) (m : Message) (kind_is : k
 
       pub body_of_one : IsOne kind bytes m → IsBodyOf set (drop start bytes) m
       body_of_one is =
-          let fits : CanBeSent m = is.spells.fits in
-          let parts = same_front (code_of_kind kind) (body_len_of kind) (set_of_message m) set (body_of m) (drop start bytes) (known_of m fits) begins.known
-          (sym (is.spells.spelled ∙ frame_by_kind fits.1) ∙ begins.front) in
-          record { set_is = parts.0; kept = fits.1; spelled = sym parts.1 }
+          let kept : IsMessage m = is.spells.is in
+          let parts = same_front (code_of_kind kind) (body_len_of kind) (set_of_message m) set (body_of m) (drop start bytes) (known_of m kept) begins.known
+          (sym (is.spells.spelled ∙ frame_by_kind kept) ∙ begins.front) in
+          record { set_is = parts.0; kept = kept; spelled = sym parts.1 }
 
     pub none_of_header : ((set : ParamSet) → IsSet set → HasOtherFront kind bytes set) → IsOne kind bytes m → ⊥
     none_of_header none is =
-        let fits : CanBeSent m = is.spells.fits in
-        none (set_of_message m) (known_of m fits) fits.0 (body_of m) (is.spells.spelled ∙ frame_by_kind fits.1)
+        let kept : IsMessage m = is.spells.is in
+        none (set_of_message m) (known_of m kept) (body_of m) (is.spells.spelled ∙ frame_by_kind kept)
 
   -- ---- a frame in the front of an input, of more bytes than such frames have
 
-  module _ (limit : ℕ) (longer : (set : ParamSet) → IsSet set → IsBuilt set → frame_len_of kind set < limit) (front input : List ℕ) (is_front : front ≡ take limit input) where
+  module _ (limit : ℕ) (longer : (set : ParamSet) → IsSet set → frame_len_of kind set < limit) (front input : List ℕ)
+      (is_front : front ≡ take limit input) where
     shorter : {x : List ℕ} → IsOne kind x m → length (frame_of m) < limit
     shorter is =
-        let fits : CanBeSent m = is.spells.fits in
+        let kept : IsMessage m = is.spells.is in
         let set : ParamSet = set_of_message m in
-        omega (arith, longer set (known_of m fits) fits.0, length-header (code_of_kind kind) set (body_len_of kind set), length-frame m (body_len_of kind set) (length_is fits.1))
+        let len : ℕ = body_len_of kind set in
+        omega (arith, longer set (known_of m kept), length-header (code_of_kind kind) set len, length-frame m len (length_is kept))
 
     pub one_of_front : IsOne kind front m ↔ IsOne kind input m
     one_of_front = (

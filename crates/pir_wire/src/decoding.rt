@@ -1,5 +1,5 @@
 ghost use Rattle.std.specs.Prelude.{◌≡◌, IfOk, IfSome, IfNone};
-ghost use Rattle.spiral_sets.specs.Sets.{IsSet, IsBuilt};
+ghost use Rattle.spiral_sets.specs.Sets.{IsSet};
 ghost use Rattle.frame_headers.specs.declared.kind.FrameKind.{FrameKind};
 ghost use Rattle.spiral_frames.specs.Frames.{Message, kind_of, IsOne};
 ghost use Rattle.pir_wire.specs.Bodies.{IsBodyOf, HasOneLength};
@@ -33,8 +33,7 @@ pub trait FramedMessage: Sized {
 
     /// The message of that set whose frame's body the bytes are; `None` exactly where they are the body of none.
     fn from_body(alloc: Global, set: &ParamSet, body: &[u8]) -> Result<Option<Self>, NoMemory>
-        requires known { IsSet set.now }
-        requires built { IsBuilt set.now }
+        requires { IsSet set.now }
         ensures found { IfOk result (λ found. IfSome found (λ m. IsBodyOf set.now body.now (message m))) }
         ensures none { IfOk result (λ found. IfNone found ((m : Message) → kind_of m ≡ KIND → IsBodyOf set.now body.now m → ⊥)) };
 

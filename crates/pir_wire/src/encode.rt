@@ -1,7 +1,6 @@
 ghost use Rattle.std.specs.Prelude.{◌≡◌, ◌++◌, map, replicate, All, IfOk};
-ghost use Rattle.spiral_sets.specs.Sets.{IsBuilt};
 ghost use Rattle.spiral_model.specs.Replies.{IsTernary};
-ghost use Rattle.spiral_frames.specs.Frames.{CanBeSent, Spell, setup_message, query_message, reply_message, state_message, secret_byte as secret_byte_of};
+ghost use Rattle.spiral_frames.specs.Frames.{IsMessage, Spell, setup_message, query_message, reply_message, state_message, secret_byte as secret_byte_of};
 
 use crate::header::begin_frame;
 use crate::reply::{push_body, push_mask};
@@ -33,7 +32,7 @@ fn push_secret(out: &mut Vec<u8>, secret: &[i8]) -> Result<(), NoMemory>
 
 /// The State frame of a state.
 pub fn encode_state(alloc: Global, state: &ClientState) -> Result<Vec<u8>, NoMemory>
-    requires { CanBeSent (state_message state.now) }
+    requires { IsMessage (state_message state.now) }
     ensures { IfOk result (λ bytes. Spell (state_message state.now) bytes.items) }
 {
     let mut out = begin_frame(alloc, FrameKind::State, &state.set)?;
@@ -51,7 +50,7 @@ fn zeros(alloc: Global, count: usize) -> Result<Vec<u64>, NoMemory>
 
 /// The Setup frame of a set's keys.
 pub fn encode_setup(alloc: Global, keys: &KeyBody) -> Result<Vec<u8>, NoMemory>
-    requires { CanBeSent (setup_message keys.now) }
+    requires { IsMessage (setup_message keys.now) }
     ensures { IfOk result (λ bytes. Spell (setup_message keys.now) bytes.items) }
 {
     let mut numbers = zeros(alloc, keys.set.degree as usize)?;
@@ -62,7 +61,7 @@ pub fn encode_setup(alloc: Global, keys: &KeyBody) -> Result<Vec<u8>, NoMemory>
 
 /// The Query frame of a query.
 pub fn encode_query(alloc: Global, query: &QueryBody) -> Result<Vec<u8>, NoMemory>
-    requires { CanBeSent (query_message query.now) }
+    requires { IsMessage (query_message query.now) }
     ensures { IfOk result (λ bytes. Spell (query_message query.now) bytes.items) }
 {
     let mut numbers = zeros(alloc, query.set.degree as usize)?;
@@ -73,7 +72,6 @@ pub fn encode_query(alloc: Global, query: &QueryBody) -> Result<Vec<u8>, NoMemor
 
 /// The Reply frame of a reply.
 pub fn encode_reply(alloc: Global, reply: &Reply) -> Result<Vec<u8>, NoMemory>
-    requires { IsBuilt reply.now.set }
     ensures { IfOk result (λ bytes. Spell (reply_message reply.now) bytes.items) }
 {
     let set = reply.set();

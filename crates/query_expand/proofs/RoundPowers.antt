@@ -1,6 +1,6 @@
 -- The automorphism of a round, and how many rounds there are.
 use Rattle.std.proofs.Common.{◌≡◌, ℕ, suc, ◌+◌, ◌-◌, ◌*◌, ◌/◌, ◌%◌, ◌^◌, ◌<◌, ◌≤◌, inl, inr, ◌∙◌, ap, arith}
-use Rattle.std.proofs.Math.Nat.{pow-succ', pow-le-pow_right, div-le_self}
+use Rattle.std.proofs.Math.Nat.{pow-succ', pow-le-pow_right}
 use Rattle.std.proofs.lemmas.Bool.{cases_lt}
 use Rattle.std.proofs.lemmas.Nat.{pow_pos, pow-add, shl-shr, one_shl}
 use Rattle.ring_poly.specs.Polynomials.{IsDegree}
@@ -53,10 +53,6 @@ odd_power j e N is most =
 pub power_odd : (N j : ℕ) → IsDegree N → 2 ^ (j + 1) ≤ N → (N / 2 ^ j + 1) % 2 ≡ 1
 power_odd N j (inl is) most = odd_power j 8 N is most
 power_odd N j (inr is) most = odd_power j 11 N is most
-
--- and below 2N
-pub power_below : (N j : ℕ) → 2 ^ (j + 1) ≤ N → N / 2 ^ j + 1 < 2 * N
-power_below N j most = omega (arith, div-le_self N (2 ^ j), twice j, pow_pos j, most)
 
 -- ---- as the code works them out
 

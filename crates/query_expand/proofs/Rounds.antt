@@ -1,11 +1,11 @@
 -- The rounds of expansion, worked out in place: each on the front of a list that has room for all.
 use Rattle.std.proofs.Common.{◌≡◌, ℕ, ◌+◌, ◌*◌, ◌^◌, ◌<◌, ◌≤◌, List, [], ◌∷◌, ◌++◌, length, get_or, take, drop, replicate, All, map, refl, sym, ◌∙◌, ap, ap₂, subst, arith, append_assoc, length-append, length-take-le}
 use Rattle.std.specs.List.{range_with_len}
-use Rattle.std.proofs.lemmas.List.{same_lists, ext_get_or, get_or-take, get_or_read, length-map, length_push, take_at, take_all, take-append-drop, take-append-le, drop_more, drop_all}
+use Rattle.std.proofs.lemmas.List.{same_lists, get_or-take, length-map, length_push, take_at, take_all, take-append-drop, take-append-le, drop_more, drop_all}
 use Rattle.std.proofs.lemmas.List.Elements.{All-push, All-cons, All-nil}
 use Rattle.std.proofs.lemmas.List.FromFn.{length-map-range_with_len}
 use Rattle.negacyclic.proofs.Lists.{at_range}
-use Rattle.negacyclic.proofs.Filled.{Filled, filled_all, filled_more}
+use Rattle.negacyclic.proofs.Filled.{Filled, filled_all}
 use Rattle.spiral_model.specs.Words.{Cipher, cipher_at}
 use Rattle.spiral_model.specs.KeySwitching.{DigitKey}
 use Rattle.spiral_model.specs.Expansion.{even_half, odd_half, expand_round, expanded}
@@ -17,7 +17,8 @@ use Rattle.query_expand.proofs.HalfRows.{each_place}
 -- ---- one round
 
 -- A list whose first n places were written one by one has these values in front.
-filled_front : {A : Type 0} (f : ℕ → A) (old : List A) (n i : ℕ) (xs : List A) → n ≤ i → n ≤ length old → Filled f old i xs → take n xs ≡ map f (range_with_len 0 n)
+filled_front : {A : Type 0} (f : ℕ → A) (old : List A) (n i : ℕ) (xs : List A) → n ≤ i → n ≤ length old → Filled f old i xs
+    → take n xs ≡ map f (range_with_len 0 n)
 filled_front f old n i xs past within so_far =
     let size : length (take n xs) ≡ n = length-take-le n xs (omega (arith, so_far.count)) in
     same_lists (take n xs) (map f (range_with_len 0 n)) (size ∙ sym (length-map-range_with_len f 0 n))
@@ -78,8 +79,8 @@ pub expands-none : (N first : ℕ) (keys : List DigitKey) (old : List Cipher) �
 expands-none N first keys old = record { within = omega arith; doubled = refl; counted = omega arith; so_far = refl }
 
 -- one more
-pub expands-more : (N first : ℕ) (keys : List DigitKey) (old : List Cipher) (i size round next : ℕ) (ciphers new : List Cipher) (key : DigitKey) → i < length keys
-    → key ≡ get_or keys i key → next ≡ 2 * size → take (2 * size) new ≡ expand_round N round key (take size ciphers)
+pub expands-more : (N first : ℕ) (keys : List DigitKey) (old : List Cipher) (i size round next : ℕ) (ciphers new : List Cipher) (key : DigitKey)
+    → i < length keys → key ≡ get_or keys i key → next ≡ 2 * size → take (2 * size) new ≡ expand_round N round key (take size ciphers)
     → Expands N first keys old i size round ciphers → Expands N first keys old (i + 1) next (round + 1) new
 expands-more N first keys old i size round next ciphers new key h item double stepped before =
     let rest : List DigitKey = drop (i + 1) keys in
@@ -98,8 +99,8 @@ expands-more N first keys old i size round next ciphers new key h item double st
     }
 
 -- all of them
-pub expands-all : (N first : ℕ) (keys : List DigitKey) (old : List Cipher) (i size round : ℕ) (ciphers : List Cipher) → length keys ≤ i → length ciphers ≡ 2 ^ length keys
-    → Expands N first keys old i size round ciphers → ciphers ≡ expanded N first keys (take 1 old)
+pub expands-all : (N first : ℕ) (keys : List DigitKey) (old : List Cipher) (i size round : ℕ) (ciphers : List Cipher) → length keys ≤ i
+    → length ciphers ≡ 2 ^ length keys → Expands N first keys old i size round ciphers → ciphers ≡ expanded N first keys (take 1 old)
 expands-all N first keys old i size round ciphers past count all =
     let within : i ≤ length keys = all.within in
     let end : i ≡ length keys = omega arith in
@@ -118,14 +119,15 @@ pub record StartsWith (N : ℕ) (c : Cipher) (count : ℕ) (ciphers : List Ciphe
   pub shapes : All (HasShape N 2) ciphers
 
 -- c alone
-pub starts-none : (N : ℕ) (c copy : Cipher) (none ciphers : List Cipher) → HasShape N 2 c → copy ≡ c → none ≡ [] → ciphers ≡ none ++ copy ∷ [] → StartsWith N c 0 ciphers
+pub starts-none : (N : ℕ) (c copy : Cipher) (none ciphers : List Cipher) → HasShape N 2 c → copy ≡ c → none ≡ [] → ciphers ≡ none ++ copy ∷ []
+    → StartsWith N c 0 ciphers
 starts-none N c copy none ciphers shape same empty is =
     let alone : ciphers ≡ c ∷ [] = is ∙ ap₂ (λ (xs : List Cipher) (x : Cipher). xs ++ x ∷ []) empty same in
     subst (StartsWith N c 0) (sym alone) (record { first = refl; many = refl; shapes = All-cons (HasShape N 2) c [] shape (All-nil (HasShape N 2)) })
 
 -- zeros behind the others
-pub starts-more : (N : ℕ) (c : Cipher) (count : ℕ) (ciphers new : List Cipher) (zeros : Cipher) → zeros ≡ replicate 2 (replicate {A = ℕ} N 0) → new ≡ ciphers ++ zeros ∷ []
-    → StartsWith N c count ciphers → StartsWith N c (count + 1) new
+pub starts-more : (N : ℕ) (c : Cipher) (count : ℕ) (ciphers new : List Cipher) (zeros : Cipher) → zeros ≡ replicate 2 (replicate {A = ℕ} N 0)
+    → new ≡ ciphers ++ zeros ∷ [] → StartsWith N c count ciphers → StartsWith N c (count + 1) new
 starts-more N c count ciphers new zeros are pushed before =
     let many : length ciphers ≡ count + 1 = before.many in
     subst (StartsWith N c (count + 1)) (sym pushed)

@@ -1,5 +1,5 @@
 -- The rounds of expansion of a set: how many there are, that they fit the degree, and that they have their keys.
-use Rattle.std.proofs.Common.{◌≡◌, ℕ, ◌+◌, ◌*◌, ◌^◌, ◌<◌, ◌≤◌, Bool, true, false, if◌then◌else◌, List, length, All, leb, leb-true, refl, sym, ◌∙◌, ap, subst, arith}
+use Rattle.std.proofs.Common.{◌≡◌, ℕ, ◌+◌, ◌*◌, ◌^◌, ◌≤◌, Bool, false, if◌then◌else◌, List, length, All, leb, leb-true, refl, sym, ◌∙◌, ap, subst}
 use Rattle.spiral_sets.specs.declared.param_set.ParamSet.{ParamSet}
 use Rattle.spiral_sets.specs.Sets.{IsSet, digit_count, rho}
 use Rattle.spiral_sets.proofs.SetBounds.{passes}
@@ -56,7 +56,8 @@ chosen b count e = ap (λ (x : Bool). if x then 0 else count) e
 
 first_of : (N : ℕ) (keys : SetKeys) → N ≡ keys.set.degree → keys.set.direct ≡ false → AreSetKeys keys → AreRounds N keys.set 0 1 keys.round0
 first_of N keys degree expanding are =
-    rounds_are keys.set N 0 1 (if keys.set.direct then 0 else 1) keys.round0 degree (first_fits keys.set are.known) are.round0.many (chosen keys.set.direct 1 expanding)
+    rounds_are keys.set N 0 1 (if keys.set.direct then 0 else 1) keys.round0 degree (first_fits keys.set are.known) are.round0.many
+    (chosen keys.set.direct 1 expanding)
     (round0_keys_of keys are)
 
 left_of : (N : ℕ) (keys : SetKeys) → N ≡ keys.set.degree → keys.set.direct ≡ false → AreSetKeys keys → AreRounds N keys.set 1 keys.set.nu1 keys.left
@@ -69,20 +70,21 @@ right_of N keys degree expanding are =
     rounds_are keys.set N 1 (rho keys.set) (if keys.set.direct then 0 else rho keys.set) keys.right degree (right_fits keys.set are.known) are.right.many
     (chosen keys.set.direct (rho keys.set) expanding) (right_keys_of keys are)
 
--- The same where the set is known by an equation: round 0,
-pub first_rounds : (N : ℕ) (set : ParamSet) (keys : SetKeys) → N ≡ set.degree → keys.set ≡ set → set.direct ≡ false → AreSetKeys keys → AreRounds N set 0 1 keys.round0
+-- the same where the set is known by an equation
+first_rounds : (N : ℕ) (set : ParamSet) (keys : SetKeys) → N ≡ set.degree → keys.set ≡ set → set.direct ≡ false → AreSetKeys keys
+    → AreRounds N set 0 1 keys.round0
 first_rounds N set keys degree same expanding are =
     subst (λ (s : ParamSet). AreRounds N s 0 1 keys.round0) same
     (first_of N keys (degree ∙ ap (λ (s : ParamSet). s.degree) (sym same)) (ap (λ (s : ParamSet). s.direct) same ∙ expanding) are)
 
--- the left rounds,
-pub left_rounds : (N : ℕ) (set : ParamSet) (keys : SetKeys) → N ≡ set.degree → keys.set ≡ set → set.direct ≡ false → AreSetKeys keys → AreRounds N set 1 set.nu1 keys.left
+left_rounds : (N : ℕ) (set : ParamSet) (keys : SetKeys) → N ≡ set.degree → keys.set ≡ set → set.direct ≡ false → AreSetKeys keys
+    → AreRounds N set 1 set.nu1 keys.left
 left_rounds N set keys degree same expanding are =
     subst (λ (s : ParamSet). AreRounds N s 1 s.nu1 keys.left) same
     (left_of N keys (degree ∙ ap (λ (s : ParamSet). s.degree) (sym same)) (ap (λ (s : ParamSet). s.direct) same ∙ expanding) are)
 
--- and the right ones
-pub right_rounds : (N : ℕ) (set : ParamSet) (keys : SetKeys) → N ≡ set.degree → keys.set ≡ set → set.direct ≡ false → AreSetKeys keys → AreRounds N set 1 (rho set) keys.right
+right_rounds : (N : ℕ) (set : ParamSet) (keys : SetKeys) → N ≡ set.degree → keys.set ≡ set → set.direct ≡ false → AreSetKeys keys
+    → AreRounds N set 1 (rho set) keys.right
 right_rounds N set keys degree same expanding are =
     subst (λ (s : ParamSet). AreRounds N s 1 (rho s) keys.right) same
     (right_of N keys (degree ∙ ap (λ (s : ParamSet). s.degree) (sym same)) (ap (λ (s : ParamSet). s.direct) same ∙ expanding) are)
@@ -94,20 +96,26 @@ pub record AreLent (N : ℕ) (set : ParamSet) (first count : ℕ) (rounds lent :
   pub same : lent ≡ rounds
   pub are : AreRounds N set first count lent
 
-lent_of : (N : ℕ) (set : ParamSet) (first count : ℕ) (rounds lent : List DigitKey) → lent ≡ rounds → AreRounds N set first count rounds → AreLent N set first count rounds lent
+lent_of : (N : ℕ) (set : ParamSet) (first count : ℕ) (rounds lent : List DigitKey) → lent ≡ rounds → AreRounds N set first count rounds
+    → AreLent N set first count rounds lent
 lent_of N set first count rounds lent same are = record { same = same; are = subst (AreRounds N set first count) (sym same) are }
 
-pub first_lent : (N : ℕ) (set : ParamSet) (keys inside : SetKeys) (lent : List DigitKey) → inside ≡ keys → AreSetKeys inside → lent ≡ inside.round0 → N ≡ set.degree → keys.set ≡ set
-    → set.direct ≡ false → AreLent N set 0 1 keys.round0 lent
+-- Round 0, as its key is lent,
+pub first_lent : (N : ℕ) (set : ParamSet) (keys inside : SetKeys) (lent : List DigitKey) → inside ≡ keys → AreSetKeys inside → lent ≡ inside.round0
+    → N ≡ set.degree → keys.set ≡ set → set.direct ≡ false → AreLent N set 0 1 keys.round0 lent
 first_lent N set keys inside lent view are shown degree same expanding =
     lent_of N set 0 1 keys.round0 lent (shown ∙ ap (λ (k : SetKeys). k.round0) view) (first_rounds N set keys degree same expanding (subst AreSetKeys view are))
 
-pub left_lent : (N : ℕ) (set : ParamSet) (keys inside : SetKeys) (lent : List DigitKey) → inside ≡ keys → AreSetKeys inside → lent ≡ inside.left → N ≡ set.degree → keys.set ≡ set
-    → set.direct ≡ false → AreLent N set 1 set.nu1 keys.left lent
+-- the left rounds,
+pub left_lent : (N : ℕ) (set : ParamSet) (keys inside : SetKeys) (lent : List DigitKey) → inside ≡ keys → AreSetKeys inside → lent ≡ inside.left
+    → N ≡ set.degree → keys.set ≡ set → set.direct ≡ false → AreLent N set 1 set.nu1 keys.left lent
 left_lent N set keys inside lent view are shown degree same expanding =
-    lent_of N set 1 set.nu1 keys.left lent (shown ∙ ap (λ (k : SetKeys). k.left) view) (left_rounds N set keys degree same expanding (subst AreSetKeys view are))
+    lent_of N set 1 set.nu1 keys.left lent (shown ∙ ap (λ (k : SetKeys). k.left) view)
+    (left_rounds N set keys degree same expanding (subst AreSetKeys view are))
 
-pub right_lent : (N : ℕ) (set : ParamSet) (keys inside : SetKeys) (lent : List DigitKey) → inside ≡ keys → AreSetKeys inside → lent ≡ inside.right → N ≡ set.degree → keys.set ≡ set
-    → set.direct ≡ false → AreLent N set 1 (rho set) keys.right lent
+-- and the right ones.
+pub right_lent : (N : ℕ) (set : ParamSet) (keys inside : SetKeys) (lent : List DigitKey) → inside ≡ keys → AreSetKeys inside → lent ≡ inside.right
+    → N ≡ set.degree → keys.set ≡ set → set.direct ≡ false → AreLent N set 1 (rho set) keys.right lent
 right_lent N set keys inside lent view are shown degree same expanding =
-    lent_of N set 1 (rho set) keys.right lent (shown ∙ ap (λ (k : SetKeys). k.right) view) (right_rounds N set keys degree same expanding (subst AreSetKeys view are))
+    lent_of N set 1 (rho set) keys.right lent (shown ∙ ap (λ (k : SetKeys). k.right) view)
+    (right_rounds N set keys degree same expanding (subst AreSetKeys view are))

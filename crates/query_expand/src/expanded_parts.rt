@@ -1,16 +1,17 @@
 ghost use Rattle.std.specs.Prelude.{false, ◌≡◌, ◌*◌, ◌^◌, ◌≤◌, [], ◌∷◌, length, map, take, drop, All, IfOk, ◌+◌};
 ghost use Rattle.std.specs.List.{range_with_len, flat_map};
-ghost use Rattle.spiral_sets.specs.Sets.{IsSet, digit_count as digit_count_of, rho};
+ghost use Rattle.spiral_sets.specs.Sets.{IsSet, digit_count as digit_count_of, rho, rows};
+ghost use Rattle.spiral_sets.specs.Counts.{firsts_count};
 ghost use Rattle.spiral_model.specs.Expansion.{expanded, sides};
 ghost use Rattle.spiral_model.specs.Packing.{lift_matrix as lift_matrix_of};
 ghost use Rattle.regev_code.specs.Products.{HasShape};
 ghost use Rattle.gsw_code.specs.Products.{IsGsw};
-ghost use Rattle.query_expand.specs.Parts.{translated_part};
+ghost use Rattle.query_expand.specs.Parts.{firsts_from as firsts_from_of, gsws_from};
 
 use crate::expand;
 use gsw_code::Gsw;
 use no_memory::NoMemory;
-use regev_code::{Cipher, CipherT, EvalKeys, Scratch};
+use regev_code::{Cipher, CipherT, EvalKeys, Scratch, forms_of};
 use regev_to_gsw::translate;
 use ring_poly::Ring;
 use spiral_pack::lift_matrix;
@@ -101,25 +102,53 @@ fn lift_each(
     Ok(firsts)
 }
 
-/// The first dimension of an expanded query: the ciphertexts of its left side, each lifted into rows 1 to n.
+/// The first dimension of the scalar ciphertexts of its places, by place, in product form: where the set packs these as they are, else
+/// each one lifted into rows 1 to n.
+fn firsts_from(
+    alloc: Global,
+    ring: &Ring,
+    set: &ParamSet,
+    ciphers: &[Cipher],
+    keys: &EvalKeys,
+    scratch: &mut Scratch,
+) -> Result<Vec<CipherT>, NoMemory>
+    requires ring { ring.now ≡ set.now.degree }
+    requires scratch { scratch.old ≡ set.now }
+    requires keys { keys.now.set ≡ set.now }
+    requires shapes { All (HasShape ring.now 2) ciphers.now }
+    ensures value { IfOk result (λ firsts. firsts.items ≡ firsts_from_of set.now keys.now.lift ciphers.now) }
+    ensures many { IfOk result (λ firsts. length firsts.items ≡ length ciphers.now * rows set.now) }
+    ensures shapes { IfOk result (λ firsts. All (HasShape ring.now (rows set.now + 1)) firsts.items) }
+    ensures scratch { scratch.new ≡ scratch.old }
+{
+    if set.pack {
+        Ok(forms_of(alloc, ring, ciphers)?)
+    } else {
+        Ok(lift_each(alloc, ring, ciphers, keys, scratch)?)
+    }
+}
+
+/// The first dimension of an expanded query, from its left side.
 pub(crate) fn expanded_firsts(
     alloc: Global,
     ring: &Ring,
+    set: &ParamSet,
     side: &Cipher,
     keys: &EvalKeys,
     scratch: &mut Scratch,
 ) -> Result<Vec<CipherT>, NoMemory>
-    requires ring { ring.now ≡ scratch.old.degree }
-    requires keys { keys.now.set ≡ scratch.old }
-    requires expanding { scratch.old.direct ≡ false }
+    requires expanding { set.now.direct ≡ false }
+    requires ring { ring.now ≡ set.now.degree }
+    requires scratch { scratch.old ≡ set.now }
+    requires keys { keys.now.set ≡ set.now }
     requires side { HasShape ring.now 2 side.now }
-    ensures value { IfOk result (λ firsts. firsts.items ≡ flat_map (lift_matrix_of scratch.old keys.now.lift) (expanded ring.now 1 keys.now.left (side.now ∷ []))) }
-    ensures many { IfOk result (λ firsts. length firsts.items ≡ 2 ^ scratch.old.nu1 * scratch.old.n) }
-    ensures shapes { IfOk result (λ firsts. All (HasShape ring.now (scratch.old.n + 1)) firsts.items) }
+    ensures value { IfOk result (λ firsts. firsts.items ≡ firsts_from_of set.now keys.now.lift (expanded ring.now 1 keys.now.left (side.now ∷ []))) }
+    ensures many { IfOk result (λ firsts. length firsts.items ≡ firsts_count set.now) }
+    ensures shapes { IfOk result (λ firsts. All (HasShape ring.now (rows set.now + 1)) firsts.items) }
     ensures scratch { scratch.new ≡ scratch.old }
 {
     let ciphers = left_ciphers(alloc, ring, side, keys, scratch)?;
-    Ok(lift_each(alloc, ring, &ciphers, keys, scratch)?)
+    Ok(firsts_from(alloc, ring, set, &ciphers, keys, scratch)?)
 }
 
 /// The GSW ciphertexts of the selections, each translated from the t scalar ciphertexts of its bit's digits.
@@ -138,7 +167,7 @@ fn translate_each(
     requires keys { keys.now.set ≡ set.now }
     requires enough { digit_count_of set.now.w_gsw * set.now.nu2 ≤ length ciphers.now }
     requires shapes { All (HasShape ring.now 2) ciphers.now }
-    ensures value { IfOk result (λ gsws. gsws.items ≡ map (translated_part set.now keys.now ciphers.now) (range_with_len 0 set.now.nu2)) }
+    ensures value { IfOk result (λ gsws. gsws.items ≡ gsws_from set.now keys.now ciphers.now) }
     ensures shapes { IfOk result (λ gsws. All (IsGsw set.now) gsws.items) }
     ensures scratch { scratch.new ≡ scratch.old }
 {
@@ -168,7 +197,7 @@ pub(crate) fn expanded_gsws(
     requires scratch { scratch.old ≡ set.now }
     requires keys { keys.now.set ≡ set.now }
     requires side { HasShape ring.now 2 side.now }
-    ensures value { IfOk result (λ gsws. gsws.items ≡ map (translated_part set.now keys.now (expanded ring.now 1 keys.now.right (side.now ∷ []))) (range_with_len 0 set.now.nu2)) }
+    ensures value { IfOk result (λ gsws. gsws.items ≡ gsws_from set.now keys.now (expanded ring.now 1 keys.now.right (side.now ∷ []))) }
     ensures shapes { IfOk result (λ gsws. All (IsGsw set.now) gsws.items) }
     ensures scratch { scratch.new ≡ scratch.old }
 {

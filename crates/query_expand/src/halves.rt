@@ -1,8 +1,6 @@
 //! What a round of expansion makes of one ciphertext: c + Auto(c), and d + Auto(d) for d = x^(-2^j) c.
 
 ghost use Rattle.std.specs.Prelude.{◌≡◌, ◌+◌, ◌-◌, ◌*◌, ◌%◌, ◌^◌, ◌<◌, ◌≤◌, length, All};
-ghost use Rattle.spiral_model.specs.Words.{row_of};
-ghost use Rattle.spiral_model.specs.Gadgets.{cipher_add};
 ghost use Rattle.spiral_model.specs.Expansion.{round_power, cipher_shift, even_half, odd_half};
 ghost use Rattle.regev_code.specs.Products.{HasShape};
 ghost use Rattle.regev_code.specs.KeyShapes.{IsKeyOf};
@@ -55,29 +53,6 @@ fn shift_into(ring: &Ring, e: usize, c: &Cipher, out: &mut Cipher)
     shift_rows(ring, e, &c.polys, &mut out.polys);
 }
 
-/// Adds rows, one by one.
-#[tactic(auto, using(negacyclic::proofs::Filled::filled_all))]
-fn add_rows(rows: &[Poly], sum: &mut [Poly])
-    requires same_length { length rows.now ≡ length sum.old }
-    requires rows_degree { All (λ a. length a ≡ length (row_of sum.old 0)) rows.now }
-    requires sum_degree { All (λ a. length a ≡ length (row_of sum.old 0)) sum.old }
-    ensures { sum.new ≡ cipher_add (length (row_of sum.old 0)) sum.old rows.now }
-{
-    for i in 0..sum.len() {
-        let row = &mut sum[i];
-        row.add_assign(&rows[i]);
-    }
-}
-
-/// Adds a ciphertext, row by row.
-fn add_cipher(c: &Cipher, sum: &mut Cipher)
-    requires same_rows { length c.now ≡ length sum.old }
-    requires same_degree { All (λ a. length a ≡ length (row_of sum.old 0)) c.now }
-    ensures { sum.new ≡ cipher_add (length (row_of sum.old 0)) sum.old c.now }
-{
-    add_rows(&c.polys, &mut sum.polys);
-}
-
 /// A ciphertext becomes the half of it that round j keeps in its place, c + Auto(c), with room for one ciphertext.
 pub(crate) fn keep_even(
     ring: &Ring,
@@ -99,7 +74,7 @@ pub(crate) fn keep_even(
 {
     let g = automorphism_of(ring, round);
     apply_auto(ring, g, c, key, image, scratch);
-    add_cipher(image, c);
+    c.add_assign(image);
 }
 
 /// Writes the other half, d + Auto(d) where d = x^(-2^j) c, with room for one ciphertext.

@@ -3,10 +3,11 @@ ghost use Rattle.std.specs.Option.{option_copied};
 ghost use Rattle.spiral_sets.specs.Sets.{IsSet, rows};
 ghost use Rattle.spiral_sets.specs.Counts.{firsts_count, gsw_count};
 ghost use Rattle.spiral_model.specs.Bodies.{IsQuery};
-ghost use Rattle.spiral_model.specs.Answering.{firsts_of, gsws_of, expanded_firsts as expanded_firsts_of, expanded_gsws as expanded_gsws_of, ready_of};
+ghost use Rattle.spiral_model.specs.Answering.{firsts_of, gsws_of, ready_of};
 ghost use Rattle.regev_code.specs.Products.{HasShape};
 ghost use Rattle.gsw_code.specs.Products.{IsGsw, IsReady};
-ghost use Rattle.query_expand.specs.AskedKeys.{AreKeysFor};
+ghost use Rattle.regev_code.specs.KeyShapes.{AreKeysFor};
+ghost use Rattle.query_expand.specs.Parts.{both_parts};
 
 use crate::expanded_parts::{expanded_firsts, expanded_gsws, two_sides};
 use gsw_code::{Gsw, Ready};
@@ -72,26 +73,25 @@ fn ready_expanded(
 ) -> Result<Ready, NoMemory>
     requires known { IsSet set.now }
     requires expanding { set.now.direct ≡ false }
-    requires plain { set.now.pack ≡ false }
     requires ring { ring.now ≡ set.now.degree }
     requires scratch { scratch.old ≡ set.now }
     requires keys { keys.now.set ≡ set.now }
     requires c { HasShape ring.now 2 c.now }
-    ensures value { IfOk result (λ ready. ready ≡ record { firsts = expanded_firsts_of set.now keys.now c.now; gsws = expanded_gsws_of set.now keys.now c.now }) }
+    ensures value { IfOk result (λ ready. ready ≡ both_parts set.now keys.now c.now) }
     ensures shape { IfOk result (λ ready. IsReady set.now ready) }
     ensures scratch { scratch.new ≡ scratch.old }
 {
     let sides = two_sides(alloc, ring, c, keys, scratch)?;
     Ok(Ready {
-        firsts: expanded_firsts(alloc, ring, &sides[0], keys, scratch)?,
+        firsts: expanded_firsts(alloc, ring, set, &sides[0], keys, scratch)?,
         gsws: expanded_gsws(alloc, ring, set, &sides[1], keys, scratch)?,
     })
 }
 
-/// A query made ready, in a set that doesn't pack: its ciphertexts as they were sent, or where the set isn't direct, those that its
-/// one ciphertext expands to with the set's keys. There are two sides after round 0; the left rounds and the lifts make the
-/// first dimension of the one, the right rounds and translation the selections of the other. The keys of a direct set, if any,
-/// aren't looked at. An error says that memory was wanting.
+/// A query made ready: its ciphertexts as they were sent, or where the set isn't direct, those that its one ciphertext expands to with
+/// the set's keys. There are two sides after round 0. The left rounds make of the one a scalar ciphertext for each place of the first
+/// dimension; where the set packs these are the first dimension, else their lifts into rows 1 to n. The right rounds and translation
+/// make the selections of the other. The keys of a direct set, if any, aren't looked at. An error says that memory was wanting.
 pub fn ready(
     alloc: Global,
     ring: &Ring,
@@ -101,7 +101,6 @@ pub fn ready(
     scratch: &mut Scratch,
 ) -> Result<Ready, NoMemory>
     requires known { IsSet set.now }
-    requires plain { set.now.pack ≡ false }
     requires ring { ring.now ≡ set.now.degree }
     requires set { query.now.set ≡ set.now }
     requires query { IsQuery query.now }

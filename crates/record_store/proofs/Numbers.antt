@@ -30,7 +30,11 @@ module _ (bytes : List ℕ) (set : ParamSet) where
   long = record { decided_at = start + 15; fails = nat_eq len 0 || nat_lt (capacity set) len; refusal = RecordLength (start + 8) len }
 
   abbrev ragged : Check
-  ragged = record { decided_at = start + 15; fails = not (nat_eq (body_len_in bytes) (16 + count * len)); refusal = Ragged (body_len_place bytes) (body_len_in bytes) }
+  ragged = record {
+    decided_at = start + 15;
+    fails = not (nat_eq (body_len_in bytes) (16 + count * len));
+    refusal = Ragged (body_len_place bytes) (body_len_in bytes);
+  }
 
   checks_are : database_checks set bytes ≡ many ∷ long ∷ ragged ∷ []
   unfolding database_checks
@@ -65,10 +69,13 @@ module _ (bytes : List ℕ) (set : ParamSet) where
           behind_long = behind_many ∙ checked-passes long (ragged ∷ []) (length bytes) (omega arith) right
 
           pub is_ragged : body_len_in bytes ≢ 16 + count * len → refused found ≡ Some (Ragged (body_len_place bytes) (body_len_in bytes))
-          is_ragged h = ap refused (behind_long ∙ checked-fails ragged [] (length bytes) (omega arith) (ap not (ne_eqb (body_len_in bytes) (16 + count * len) h)))
+          is_ragged h =
+              ap refused (behind_long ∙ checked-fails ragged [] (length bytes) (omega arith) (ap not (ne_eqb (body_len_in bytes) (16 + count * len) h)))
 
           pub all_right : body_len_in bytes ≡ 16 + count * len → found ≡ passes
-          all_right h = behind_long ∙ checked-passes ragged [] (length bytes) (omega arith) (ap not (eq-eqb (body_len_in bytes) (16 + count * len) h)) ∙ checked-none (length bytes)
+          all_right h =
+              behind_long ∙ checked-passes ragged [] (length bytes) (omega arith) (ap not (eq-eqb (body_len_in bytes) (16 + count * len) h))
+              ∙ checked-none (length bytes)
 
 -- ---- the tests of a record length
 
@@ -89,10 +96,14 @@ module _ (bytes : List ℕ) where
   front_is = checked-append (header_checks 64 bytes) (after_header (set_in bytes) bytes) (length bytes)
 
   pub header_ends : header_found ≡ ends_before → refusal_by (front_outcome bytes) (length bytes) ≡ Some (Short (length bytes))
-  header_ends h = ap (λ (o : Outcome). refusal_by o (length bytes)) (front_is ∙ ap (λ (o : Outcome). and_then o (checked (after_header (set_in bytes) bytes) (length bytes))) h)
+  header_ends h =
+      ap (λ (o : Outcome). refusal_by o (length bytes))
+      (front_is ∙ ap (λ (o : Outcome). and_then o (checked (after_header (set_in bytes) bytes) (length bytes))) h)
 
   pub header_refuses : (error : FrameError) → header_found ≡ refuses error → refusal_by (front_outcome bytes) (length bytes) ≡ Some error
-  header_refuses error h = ap (λ (o : Outcome). refusal_by o (length bytes)) (front_is ∙ ap (λ (o : Outcome). and_then o (checked (after_header (set_in bytes) bytes) (length bytes))) h)
+  header_refuses error h =
+      ap (λ (o : Outcome). refusal_by o (length bytes))
+      (front_is ∙ ap (λ (o : Outcome). and_then o (checked (after_header (set_in bytes) bytes) (length bytes))) h)
 
   pub header_passes : (set : ParamSet) → header_found ≡ passes → set_in bytes ≡ Some set
       → front_outcome bytes ≡ checked (database_checks set bytes) (length bytes)

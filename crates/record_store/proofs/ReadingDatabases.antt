@@ -31,7 +31,8 @@ pub refused_front : (x : List ℕ) (error : FrameError) → refusal_by (front_ou
 refused_front x error h =
     database_refusal_is x ∙ refused_whole (front_outcome x) (header_len_in x + body_len_in x) (length x) error h
 
-other_size : (outcome : Outcome) (a b : ℕ) (error : FrameError) → (outcome ≡ ends_before → ⊥) → refusal_by outcome a ≡ Some error → refusal_by outcome b ≡ Some error
+other_size : (outcome : Outcome) (a b : ℕ) (error : FrameError) → (outcome ≡ ends_before → ⊥) → refusal_by outcome a ≡ Some error
+    → refusal_by outcome b ≡ Some error
 other_size passes a b error never h = h
 other_size (refuses other) a b error never h = h
 other_size ends_before a b error never h = absurd (never refl)
@@ -94,7 +95,8 @@ module _ (x front : List ℕ) (read : front ≡ take 286 x) (below : All (λ b. 
 
       pub read_one : (m : Message) → IsOne Database bytes m × (database_refusal bytes ≡ None) → IsOne Database x m × (database_refusal x ≡ None)
       read_one m h = (
-        one_of_front x len whole_passed (whole_len ∙ sym len_is) some_body m (subst (λ (y : List ℕ). IsOne Database y m) again h.0) (ap database_refusal (sym again) ∙ h.1),
+        one_of_front x len whole_passed (whole_len ∙ sym len_is) some_body m (subst (λ (y : List ℕ). IsOne Database y m) again h.0)
+            (ap database_refusal (sym again) ∙ h.1),
         sym same ∙ h.1,
       )
 

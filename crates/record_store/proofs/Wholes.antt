@@ -40,7 +40,8 @@ module _ (x : List ℕ) (front : Front) (passed : front_outcome x ≡ passes) (h
 
     pub decode_one : IsOne Database x (database_message (table_of front (drop front.start x)))
     decode_one =
-        subst (λ (t : RecordTable). IsOne Database x (database_message t)) same_table (is_one x front.set below has.named (has_passed x front.set has.named passed) whole_is)
+        subst (λ (t : RecordTable). IsOne Database x (database_message t)) same_table
+        (is_one x front.set below has.named (has_passed x front.set has.named passed) whole_is)
 
     pub decode_passes : database_refusal x ≡ None
     decode_passes = not_refused x passed whole_is

@@ -1,5 +1,5 @@
-ghost use Rattle.std.specs.Prelude.{◌≡◌, ◌+◌, ◌*◌, ◌<◌, ◌≤◌, length, drop, Some, All, IfOk};
-ghost use Rattle.spiral_model.specs.Sets.{IsSet, IsBuilt};
+ghost use Rattle.std.specs.Prelude.{◌≡◌, ◌+◌, ◌*◌, ◌<◌, ◌≤◌, length, drop, Some, All};
+ghost use Rattle.spiral_model.specs.Sets.{IsSet};
 ghost use Rattle.spiral_frames.specs.Checks.{checked, set_in, header_len_in, body_len_in};
 ghost use Rattle.spiral_frames.specs.FrameChecks.{database_checks, front_outcome};
 ghost use Rattle.record_store.specs.Decoding.{ReadsNumbers, Decodes};
@@ -101,8 +101,7 @@ fn numbers_behind(bytes: &[u8], set: ParamSet, body: u64, start: usize) -> Resul
 
 /// The database whose frame the bytes are. It takes no memory.
 pub(crate) fn decode(bytes: Vec<u8>) -> Result<Database, FrameError>
-    ensures decodes { Decodes bytes.items result }
-    ensures built { IfOk result (λ db. IsBuilt db.set) }
+    ensures { Decodes bytes.items result }
 {
     let front = read_numbers(&bytes)?;
     let frame_len = front.frame_len();

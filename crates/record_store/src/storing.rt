@@ -1,5 +1,3 @@
-ghost use Rattle.std.specs.Prelude.{IfOk};
-ghost use Rattle.spiral_model.specs.Sets.{IsBuilt};
 ghost use Rattle.record_store.specs.Storing.{ReadsDatabase, WritesDatabase};
 
 use crate::Database;
@@ -71,7 +69,6 @@ pub fn write_db<F: Files>(
     files: &mut F,
     name: &str,
 ) -> Result<(), DbError>
-    requires { IsBuilt db.now.set }
     ensures { WritesDatabase (F.seen files.old) (F.seen files.new) name.now db.now result }
 {
     let frame = encode(alloc, db)?;
@@ -82,8 +79,7 @@ pub fn write_db<F: Files>(
 /// The database whose frame a name holds. The frame's first numbers are checked before its records are read, so that
 /// no memory is taken for records that cannot be there.
 pub fn read_db<F: Files>(alloc: Global, files: &mut F, name: &str) -> Result<Database, DbError>
-    ensures reads { ReadsDatabase (F.seen files.old) (F.seen files.new) name.now result }
-    ensures built { IfOk result (λ db. IsBuilt db.set) }
+    ensures { ReadsDatabase (F.seen files.old) (F.seen files.new) name.now result }
 {
     let front = pir_io::read_front(alloc, files, name, FRONT_LEN)?;
     let frame_len = read_numbers(&front)?.frame_len();

@@ -1,108 +1,159 @@
--- A ciphertext to which the products of a key with one digit after the other are added.
-use Rattle.std.proofs.Common.{◌≡◌, ℕ, zero, suc, ◌+◌, ◌*◌, ◌<◌, ◌≤◌, List, [], length, take, drop, All, map, refl, sym, ◌∙◌, ap, ap₂, arith, add-one}
+-- Digit sums: the product forms of all digits, a row's sum over them, and all rows.
+use Rattle.std.proofs.Common.{◌≡◌, ℕ, ◌+◌, ◌*◌, ◌<◌, ◌≤◌, List, [], length, take, drop, set, get_or, All, map, replicate, refl, sym, ◌∙◌, ap, ap₂, subst, arith}
 use Rattle.std.specs.List.{range_with_len}
-use Rattle.std.proofs.lemmas.List.Elements.{All-same}
-use Rattle.std.proofs.lemmas.List.FromFn.{fill_by_all}
+use Rattle.std.proofs.lemmas.List.Elements.{All-same, All-map}
+use Rattle.std.proofs.lemmas.List.FromFn.{length-map-range_with_len}
 use Rattle.negacyclic.specs.Digits.{digit_poly}
 use Rattle.negacyclic.specs.Ring.{ring_add, ring_mul, ring_total}
-use Rattle.negacyclic.proofs.Lengths.{length-ring_mul, ring_mul-below, ring_total-one, ring_add_total-more}
-use Rattle.negacyclic.proofs.Lists.{same_range, at_range, changed_each}
+use Rattle.negacyclic.proofs.Filled.{Filled, FilledWith, filled_none, filled_with_none, filled_more, filled_with_more, filled_all, filled_with_all}
+use Rattle.negacyclic.proofs.Ring.{ring_total_none, ring_total_more}
+use Rattle.negacyclic.proofs.Lengths.{zeros_ring, length-ring_add, length-ring_total, ring_total-same}
+use Rattle.negacyclic.proofs.Lists.{same_range, at_range}
 use Rattle.spiral_model.specs.Sets.{q, digit_count}
 use Rattle.spiral_model.specs.Words.{Poly, Cipher, row_of, cipher_at}
 use Rattle.spiral_model.specs.Gadgets.{cipher_add, digit_sum}
 use Rattle.ring_poly.proofs.Modulus.{q_some}
+use Rattle.ring_poly.specs.Sums.{ProductSum}
 use Rattle.gadget_digits.proofs.DigitRows.{first_rows, digit_row_read}
 use Rattle.regev_code.specs.Products.{HasShape}
-use Rattle.regev_code.proofs.Products.{with_product, length-with_product, with_product-degree}
+use Rattle.regev_code.specs.RowSums.{row_sum}
 
--- ---- one row
+-- ---- the product forms of the digits
 
--- a and the first polynomials of a sequence, added one after the other
-unfoldable pub added : ℕ → ℕ → Poly → (ℕ → Poly) → Poly
-added N zero a f = a
-added N (suc k) a f = ring_add q N (added N k a f) (f k)
+-- digit k, cut out of the numbers of all digits
+abbrev pub digit_cut : ℕ → List ℕ → ℕ → Poly
+digit_cut N digits k = take N (drop (k * N) digits)
 
--- at least one: their sum is added
-added_some : (N k : ℕ) (a : Poly) (f : ℕ → Poly) → length (f 0) ≡ N → All (λ x. x < q) (f 0) → added N (suc k) a f ≡ ring_add q N a (ring_total q N (suc k) f)
-unfolding added
-added_some N zero a f size below = ap (λ (b : Poly). ring_add q N a b) (sym (ring_total-one q N f q_some size below))
-added_some N (suc k) a f size below =
-    let next : suc k + 1 ≡ suc (suc k) = omega arith in
-    ap (λ (b : Poly). ring_add q N b (f (suc k))) (added_some N k a f size below)
-    ∙ ring_add_total-more q N (suc k) a f q_some
-    ∙ ap (λ (n : ℕ). ring_add q N a (ring_total q N n f)) next
+-- what the loop over the digits keeps
+pub record LoadsDigits (N : ℕ) (digits : List ℕ) (old : List Poly) (k : ℕ) (forms : List Poly) (poly : Poly) : Type 0 where
+  pub filled : FilledWith (λ a. length a ≡ N) (digit_cut N digits) old k forms
+  pub degrees : All (λ a. length a ≡ N) old
+  pub poly_degree : length poly ≡ N
 
-added_total : (N t : ℕ) (a : Poly) (f : ℕ → Poly) → length (f 0) ≡ N → All (λ x. x < q) (f 0) → 1 ≤ t → added N t a f ≡ ring_add q N a (ring_total q N t f)
-added_total N zero a f size below some = absurd (omega arith)
-added_total N (suc k) a f size below some = added_some N k a f size below
+pub loads_none : (N : ℕ) (digits : List ℕ) (old : List Poly) (poly : Poly) → All (λ a. length a ≡ N) old → length poly ≡ N → LoadsDigits N digits old 0 old poly
+loads_none N digits old poly degrees degree =
+    record { filled = filled_with_none (λ (a : Poly). length a ≡ N) (digit_cut N digits) old; degrees = degrees; poly_degree = degree }
+
+-- one digit more
+pub loads_more : (N : ℕ) (digits : List ℕ) (old : List Poly) (k : ℕ) (forms : List Poly) (poly poly_new form : Poly) → k < length forms → LoadsDigits N digits old k forms poly
+    → form ≡ digit_cut N digits k → length form ≡ N → length poly_new ≡ N → LoadsDigits N digits old (k + 1) (set forms k form) poly_new
+loads_more N digits old k forms poly poly_new form within so_far is degree poly_degree =
+    record {
+      filled = filled_with_more (λ (a : Poly). length a ≡ N) (digit_cut N digits) old k forms form within so_far.filled is degree;
+      degrees = so_far.degrees;
+      poly_degree = poly_degree;
+    }
+
+-- where the next one stands
+pub digit_degree : (N : ℕ) (digits : List ℕ) (old : List Poly) (k : ℕ) (forms : List Poly) (poly : Poly) (d : Poly) → k < length forms → LoadsDigits N digits old k forms poly
+    → length (get_or forms k d) ≡ N
+digit_degree N digits old k forms poly d within so_far =
+    let filled = so_far.filled.filled in
+    ap length (filled.rest k d (omega arith)) ∙ so_far.degrees k d (omega (arith, filled.count))
+
+-- ---- one row of the sum
+
+-- the sum over the first digits, and how many they are
+abbrev partial_sum : ℕ → List Poly → List Cipher → ℕ → ℕ → ProductSum
+partial_sum N forms key i k = record { value = ring_total q N k (λ j. ring_mul q N (row_of forms j) (row_of (cipher_at key j) i)); count = k }
+
+pub record SumsRow (N : ℕ) (forms : List Poly) (key : List Cipher) (i k : ℕ) (sum : ProductSum) : Type 0 where
+  pub so_far : sum ≡ partial_sum N forms key i k
+
+-- before the first digit
+pub sums_none : (N : ℕ) (forms : List Poly) (key : List Cipher) (i n : ℕ) (sum : ProductSum) → n ≡ N → sum ≡ record { value = replicate n 0; count = 0 } → SumsRow N forms key i 0 sum
+sums_none N forms key i n sum degree cleared = record {
+  so_far =
+      cleared
+      ∙ ap (λ (v : List ℕ). with_value v 0) (ap (λ (m : ℕ). replicate m 0) degree ∙ zeros_ring q N q_some ∙ sym (ring_total_none q N (λ j. ring_mul q N (row_of forms j) (row_of (cipher_at key j) i))));
+}
+  where
+    with_value : List ℕ → ℕ → ProductSum
+    with_value v k = record { value = v; count = k }
+
+-- its degree
+pub sums-degree : (N : ℕ) (forms : List Poly) (key : List Cipher) (i k : ℕ) (sum : ProductSum) → SumsRow N forms key i k sum → length sum.value ≡ N
+sums-degree N forms key i k sum is =
+    ap (λ (s : ProductSum). length s.value) is.so_far ∙ length-ring_total q N k (λ j. ring_mul q N (row_of forms j) (row_of (cipher_at key j) i))
+
+-- one digit more
+pub sums_more : (N : ℕ) (forms : List Poly) (key : List Cipher) (i k n : ℕ) (sum new : ProductSum) (a b : Poly) → SumsRow N forms key i k sum → n ≡ N → a ≡ row_of forms k
+    → b ≡ row_of (cipher_at key k) i → new ≡ record { value = ring_add q n sum.value (ring_mul q n a b); count = sum.count + 1 } → SumsRow N forms key i (k + 1) new
+sums_more N forms key i k n sum new a b is degree is_a is_b worked =
+    let product : ℕ → Poly = λ j. ring_mul q N (row_of forms j) (row_of (cipher_at key j) i) in
+    let value : ring_add q n sum.value (ring_mul q n a b) ≡ ring_total q N (k + 1) product =
+    ap (λ (m : ℕ). ring_add q m sum.value (ring_mul q m a b)) degree
+    ∙ ap₂ (λ (c d : Poly). ring_add q N sum.value (ring_mul q N c d)) is_a is_b
+    ∙ ap (λ (s : ProductSum). ring_add q N s.value (product k)) is.so_far
+    ∙ sym (ring_total_more q N q_some k product) in
+    record { so_far = worked ∙ ap₂ with_value value (ap (λ (s : ProductSum). s.count + 1) is.so_far) }
+  where
+    with_value : List ℕ → ℕ → ProductSum
+    with_value v m = record { value = v; count = m }
+
+-- all digits
+pub sums_all : (N : ℕ) (forms : List Poly) (key : List Cipher) (i k : ℕ) (sum : ProductSum) → k ≡ length forms → SumsRow N forms key i k sum
+    → sum ≡ record { value = row_sum N forms key i; count = length forms }
+sums_all N forms key i k sum all is = is.so_far ∙ ap (partial_sum N forms key i) all
 
 -- ---- all rows
 
--- digit k of x times that row of key ciphertext k
-abbrev digit_product : ℕ → ℕ → Poly → List Cipher → ℕ → ℕ → Poly
-digit_product N w x key i k = ring_mul q N (digit_poly w k x) (row_of (cipher_at key k) i)
+-- what the loop over the rows keeps
+pub record AddsRows (N : ℕ) (forms : List Poly) (key : List Cipher) (old : Cipher) (i : ℕ) (rows : Cipher) (sum : ProductSum) : Type 0 where
+  pub filled : Filled (λ j. ring_add q N (row_of old j) (row_sum N forms key j)) old i rows
+  pub sum_degree : length sum.value ≡ N
 
--- a ciphertext after the first digits
-unfoldable pub after_digits : ℕ → ℕ → ℕ → Poly → List Cipher → Cipher → Cipher
-after_digits N w k x key old = map (λ i. added N k (row_of old i) (digit_product N w x key i)) (range_with_len 0 (length old))
+pub adds_none : (N : ℕ) (forms : List Poly) (key : List Cipher) (old : Cipher) (sum : ProductSum) → length sum.value ≡ N → AddsRows N forms key old 0 old sum
+adds_none N forms key old sum degree = record { filled = filled_none (λ j. ring_add q N (row_of old j) (row_sum N forms key j)) old; sum_degree = degree }
 
-pub after_digits-none : (N w : ℕ) (x : List ℕ) (key : List Cipher) (old : Cipher) → old ≡ after_digits N w 0 x key old
-unfolding after_digits added
-after_digits-none N w x key old = fill_by_all (row_of old) old (length old) [] refl (λ i h. refl)
-
--- one more digit
-pub after_digits-more : (N w k : ℕ) (x digit : Poly) (key : List Cipher) (one old sum : Cipher) → digit ≡ digit_poly w k x → one ≡ cipher_at key k
-    → sum ≡ after_digits N w k x key old → with_product N digit one sum ≡ after_digits N w (k + 1) x key old
-unfolding after_digits added
-after_digits-more N w k x digit key one old sum digit_is one_is so_far =
-    rw add-one
-    (changed_each (λ i. added N k (row_of old i) (digit_product N w x key i))
-    (λ i. ring_add q N (added N k (row_of old i) (digit_product N w x key i)) (digit_product N w x key i k))
-    (λ i a. ring_add q N a (ring_mul q N digit (row_of one i))) (length old) [] sum (with_product N digit one sum) so_far refl
-    (λ i h.
-    ap₂ (λ (d : Poly) (c : Cipher). ring_add q N (added N k (row_of old i) (digit_product N w x key i)) (ring_mul q N d (row_of c i))) digit_is one_is))
-
--- all digits
-pub after_digits-all : (N w k t : ℕ) (x : Poly) (key : List Cipher) (old sum : Cipher) → t ≡ digit_count w → 1 ≤ t → k ≤ t → t ≤ k
-    → sum ≡ after_digits N w k x key old → sum ≡ cipher_add N old (map (λ i. digit_sum N w x (λ j. cipher_at key j) i) (range_with_len 0 (length old)))
-unfolding after_digits cipher_add digit_sum
-after_digits-all N w k t x key old sum count some most least so_far =
-    let all : k ≡ digit_count w = omega arith in
-    let sums = (λ (i : ℕ). ring_total q N (digit_count w) (digit_product N w x key i)) in
-    so_far ∙ ap (λ (n : ℕ). map (λ i. added N n (row_of old i) (digit_product N w x key i)) (range_with_len 0 (length old))) all
-    ∙ same_range (λ i. added N (digit_count w) (row_of old i) (digit_product N w x key i))
-    (λ i. ring_add q N (row_of old i) (row_of (map sums (range_with_len 0 (length old))) i)) (length old)
-    (λ i h.
-    added_total N (digit_count w) (row_of old i) (digit_product N w x key i) (length-ring_mul q N _ _) (ring_mul-below q N _ _ q_some) (omega arith)
-    ∙ ap (λ (b : Poly). ring_add q N (row_of old i) b) (sym (at_range sums (length old) i [] h)))
-
--- ---- the loop over the digits
-
-pub record AddsDigits (N w k : ℕ) (x : List ℕ) (key : List Cipher) (old sum : Cipher) (poly form : List ℕ) : Type 0 where
-  pub so_far : sum ≡ after_digits N w k x key old
-  pub shape : HasShape N (length old) sum
-  pub poly_degree : length poly ≡ N
-  pub form_degree : length form ≡ N
-
-pub adds_digits-none : (N w : ℕ) (x : List ℕ) (key : List Cipher) (old : Cipher) (poly form : List ℕ) → HasShape N (length old) old → length poly ≡ N → length form ≡ N
-    → AddsDigits N w 0 x key old old poly form
-adds_digits-none N w x key old poly form shape poly_degree form_degree =
-    record { so_far = after_digits-none N w x key old; shape = shape; poly_degree = poly_degree; form_degree = form_degree }
-
-pub adds_digits-more : (N w k : ℕ) (x numbers digits : List ℕ) (key : List Cipher) (one old sum new : Cipher) (poly form poly_new digit : List ℕ)
-    → AddsDigits N w k x key old sum poly form → length x ≡ N → k < digit_count w → numbers ≡ x → digits ≡ first_rows w numbers (digit_count w) → digit ≡ take N (drop (k * N) digits)
-    → one ≡ cipher_at key k → new ≡ with_product N digit one sum → length poly_new ≡ N → length digit ≡ N → AddsDigits N w (k + 1) x key old new poly_new digit
-adds_digits-more N w k x numbers digits key one old sum new poly form poly_new digit adds size within copied all loaded one_is worked poly_degree form_degree =
-    let digit_is : digit ≡ digit_poly w k x =
-    loaded ∙ ap (λ (ds : List ℕ). take N (drop (k * N) ds)) (all ∙ ap (λ (ns : List ℕ). first_rows w ns (digit_count w)) copied)
-    ∙ ap (λ (n : ℕ). take n (drop (k * n) (first_rows w x (digit_count w)))) (sym size)
-    ∙ digit_row_read w x (digit_count w) k within in
+-- one row more, which the code read as it stands
+pub adds_more : (N : ℕ) (forms : List Poly) (key : List Cipher) (old : Cipher) (i n : ℕ) (rows : Cipher) (sum sum_new : ProductSum) (row new : Poly) → i < length rows
+    → AddsRows N forms key old i rows sum → sum_new ≡ record { value = row_sum N forms key i; count = length forms } → row ≡ row_of rows i → n ≡ N
+    → new ≡ ring_add q n row sum_new.value → AddsRows N forms key old (i + 1) (set rows i new) sum_new
+adds_more N forms key old i n rows sum sum_new row new within so_far summed read degree worked =
+    let value : sum_new.value ≡ row_sum N forms key i = ap (λ (s : ProductSum). s.value) summed in
     record {
-      so_far = worked ∙ after_digits-more N w k x digit key one old sum digit_is one_is adds.so_far;
-      shape = record {
-        rows_count = ap length worked ∙ length-with_product N digit one sum ∙ adds.shape.rows_count;
-        degree = All-same (λ (a : List ℕ). length a ≡ N) _ _ worked (with_product-degree N digit one sum);
-      };
-      poly_degree = poly_degree;
-      form_degree = form_degree;
+      filled =
+          filled_more (λ j. ring_add q N (row_of old j) (row_sum N forms key j)) old i rows new within so_far.filled
+          (worked ∙ ap (λ (m : ℕ). ring_add q m row sum_new.value) degree ∙ ap₂ (ring_add q N) (read ∙ so_far.filled.rest i [] (omega arith)) value);
+      sum_degree = ap length value ∙ length-ring_total q N (length forms) (λ k. ring_mul q N (row_of forms k) (row_of (cipher_at key k) i));
     }
+
+-- the next row's degree
+pub row-degree : (N : ℕ) (forms : List Poly) (key : List Cipher) (old : Cipher) (i : ℕ) (rows : Cipher) (sum : ProductSum) → i < length rows → All (λ a. length a ≡ N) old
+    → AddsRows N forms key old i rows sum → length (row_of rows i) ≡ N
+row-degree N forms key old i rows sum within degrees so_far =
+    ap length (so_far.filled.rest i [] (omega arith)) ∙ degrees i [] (omega (arith, so_far.filled.count))
+
+-- rows with a sum added have their degree
+pub sums-degrees : (N : ℕ) (forms : List Poly) (key : List Cipher) (old : Cipher) (n : ℕ)
+    → All (λ a. length a ≡ N) (map (λ i. ring_add q N (row_of old i) (row_sum N forms key i)) (range_with_len 0 n))
+sums-degrees N forms key old n =
+    All-map (λ (a : Poly). length a ≡ N) (λ i. ring_add q N (row_of old i) (row_sum N forms key i)) (range_with_len 0 n) (λ k d h. length-ring_add q N _ _)
+
+-- ---- the whole
+
+-- Rows to which the sums over the forms of a polynomial's digits are added are those to which the digit sum is added.
+pub digit_sums_added : (N w t : ℕ) (x numbers digits : List ℕ) (forms : List Poly) (key : List Cipher) (old new : Cipher) → length x ≡ N → t ≡ digit_count w → numbers ≡ x
+    → digits ≡ first_rows w numbers (digit_count w) → forms ≡ map (digit_cut N digits) (range_with_len 0 t)
+    → new ≡ map (λ i. ring_add q N (row_of old i) (row_sum N forms key i)) (range_with_len 0 (length old))
+    → new ≡ cipher_add N old (map (λ i. digit_sum N w x (λ k. cipher_at key k) i) (range_with_len 0 (length old)))
+unfolding cipher_add digit_sum
+digit_sums_added N w t x numbers digits forms key old new size count copied all loaded worked =
+    let many : length forms ≡ digit_count w = ap length loaded ∙ length-map-range_with_len (digit_cut N digits) 0 t ∙ count in
+    let sums : ℕ → Poly = λ i. ring_total q N (digit_count w) (λ k. ring_mul q N (digit_poly w k x) (row_of (cipher_at key k) i)) in
+    let form : (k : ℕ) → k < digit_count w → row_of forms k ≡ digit_poly w k x =
+    λ k h.
+    ap (λ (fs : List Poly). row_of fs k) loaded
+    ∙ at_range (digit_cut N digits) t k [] (omega arith)
+    ∙ ap (λ (ds : List ℕ). digit_cut N ds k) (all ∙ ap (λ (ns : List ℕ). first_rows w ns (digit_count w)) copied)
+    ∙ ap (λ (n : ℕ). take n (drop (k * n) (first_rows w x (digit_count w)))) (sym size)
+    ∙ digit_row_read w x (digit_count w) k h in
+    let row : (i : ℕ) → row_sum N forms key i ≡ sums i =
+    λ i.
+    ap (λ (n : ℕ). ring_total q N n (λ k. ring_mul q N (row_of forms k) (row_of (cipher_at key k) i))) many
+    ∙ ring_total-same q N (digit_count w) (λ k. ring_mul q N (row_of forms k) (row_of (cipher_at key k) i)) (λ k. ring_mul q N (digit_poly w k x) (row_of (cipher_at key k) i))
+    (λ k h. ap (λ (a : Poly). ring_mul q N a (row_of (cipher_at key k) i)) (form k h)) in
+    worked
+    ∙ same_range (λ i. ring_add q N (row_of old i) (row_sum N forms key i)) (λ i. ring_add q N (row_of old i) (row_of (map sums (range_with_len 0 (length old))) i)) (length old)
+    (λ i h. ap (λ (b : Poly). ring_add q N (row_of old i) b) (row i ∙ sym (at_range sums (length old) i [] h)))

@@ -12,3 +12,4 @@ pub mod Rooms
 pub mod KeyWidths
 pub mod Switching
 pub mod KeyCuts
+pub mod Sums

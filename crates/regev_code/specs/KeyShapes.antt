@@ -1,5 +1,5 @@
 -- What the keys of a set keep: how many there are, their widths, and the shapes of their ciphertexts.
-use Rattle.std.specs.Prelude.{ℕ, List, ◌≡◌, ◌+◌, true, false, if◌then◌else◌, length, All, Option, MatchOption}
+use Rattle.std.specs.Prelude.{ℕ, List, ◌≡◌, ◌+◌, true, false, if◌then◌else◌, length, All, Option, Some, None, MatchOption}
 use Rattle.spiral_sets.specs.declared.param_set.ParamSet.{ParamSet}
 use Rattle.spiral_sets.specs.Sets.{IsSet, digit_count, rho, rows, has_keys}
 use Rattle.spiral_model.specs.KeySwitching.{DigitKey}
@@ -35,3 +35,8 @@ pub record AreSetKeys (keys : SetKeys) : Type 0 where
   pub right : AreKeys keys.set.degree 1 keys.set.w_right (if keys.set.direct then 0 else rho keys.set) keys.right
   pub lift : AreKeys keys.set.degree keys.set.n keys.set.w_conv keys.set.n keys.lift
   pub conv : IsConversion keys.set keys.conv
+
+-- The keys with which a set's queries are made ready and answered: a set with keys takes its own; another takes any, or none.
+abbrev pub AreKeysFor : ParamSet → Option SetKeys → Type 0
+AreKeysFor set (Some keys) = has_keys set ≡ true → keys.set ≡ set
+AreKeysFor set None = has_keys set ≡ false

@@ -3,3 +3,4 @@ pub mod Shapes
 pub mod Products
 pub mod KeyShapes
 pub mod Drawn
+pub mod RowSums

@@ -4,7 +4,7 @@ use Rattle.std.specs.List.{range_with_len}
 use Rattle.std.specs.Option.{option_to_list}
 use Rattle.spiral_sets.specs.declared.param_set.ParamSet.{ParamSet}
 use Rattle.spiral_model.specs.Sets.{has_keys}
-use Rattle.spiral_model.specs.Words.{Poly, Cipher, row_of}
+use Rattle.spiral_model.specs.Words.{Poly, Cipher, poly_of, row_of}
 use Rattle.spiral_model.specs.Sampling.{secret_numbers, secret_poly}
 use Rattle.regev_code.specs.Seen.{Secrets, Cursor}
 
@@ -24,6 +24,10 @@ numbers_under secrets false = secrets.rows
 -- the same as polynomials of degree N
 abbrev pub under : ℕ → Secrets → Bool → List Poly
 under N secrets scalar = map (secret_poly N) (numbers_under secrets scalar)
+
+-- the scalar secret as a polynomial
+abbrev pub scalar_of : ℕ → Secrets → Poly
+scalar_of N secrets = poly_of (under N secrets true) 0
 
 -- the secrets s_1 to s_n that the words from `start` on give, N words for each
 abbrev pub rows_from : ℕ → ℕ → List ℕ → ℕ → List (List ℤ)

@@ -1,6 +1,7 @@
 ghost use Rattle.std.specs.Prelude.{◌≡◌, ◌+◌, ◌<◌, ◌≤◌, ◌^◌, length, replicate, All, IfOk};
 ghost use Rattle.spiral_model.specs.Sets.{IsSet};
 ghost use Rattle.spiral_model.specs.Words.{row_of};
+ghost use Rattle.spiral_model.specs.Gadgets.{cipher_add};
 ghost use Rattle.spiral_model.specs.Ciphertexts.{phase as phase_of};
 ghost use Rattle.ring_poly.specs.Polynomials.{IsDegree};
 
@@ -39,6 +40,20 @@ fn zero_polys(alloc: Global, degree: usize, count: u32) -> Result<Vec<Poly>, NoM
     Ok(polys)
 }
 
+/// Adds rows, one by one.
+#[tactic(auto, using(negacyclic::proofs::Filled::filled_all))]
+fn add_rows(rows: &[Poly], sum: &mut [Poly])
+    requires same_length { length rows.now ≡ length sum.old }
+    requires rows_degree { All (λ a. length a ≡ length (row_of sum.old 0)) rows.now }
+    requires sum_degree { All (λ a. length a ≡ length (row_of sum.old 0)) sum.old }
+    ensures { sum.new ≡ cipher_add (length (row_of sum.old 0)) sum.old rows.now }
+{
+    for i in 0..sum.len() {
+        let row = &mut sum[i];
+        row.add_assign(&rows[i]);
+    }
+}
+
 impl Cipher {
     /// Rows 0 to m of zeros.
     pub fn zero(alloc: Global, set: &ParamSet, m: u32) -> Result<Cipher, NoMemory>
@@ -73,6 +88,15 @@ impl Cipher {
         ensures { All (λ a. length a ≡ result) self.now }
     {
         self.polys[0].degree()
+    }
+
+    /// Adds a ciphertext of the same shape, row by row: its phase is then the sum of both.
+    pub fn add_assign(&mut self, c: &Cipher)
+        requires same_rows { length c.now ≡ length self.old }
+        requires same_degree { All (λ a. length a ≡ length (row_of self.old 0)) c.now }
+        ensures { self.new ≡ cipher_add (length (row_of self.old 0)) self.old c.now }
+    {
+        add_rows(&c.polys, &mut self.polys);
     }
 
     /// A row, counted from 0.

@@ -31,7 +31,7 @@ impl Model for CipherT {
 }
 
 /// So many polynomials 0.
-fn zero_forms(alloc: Global, degree: usize, count: u32) -> Result<Vec<PolyT>, NoMemory>
+pub(crate) fn zero_forms(alloc: Global, degree: usize, count: u32) -> Result<Vec<PolyT>, NoMemory>
     requires { IsDegree degree }
     ensures { IfOk result (λ polys. polys.items ≡ replicate count (replicate degree 0)) }
 {

@@ -2,9 +2,10 @@ ghost use Rattle.std.specs.Prelude.{◌≡◌, IfOk};
 ghost use Rattle.spiral_model.specs.Sets.{IsSet};
 
 use crate::CipherT;
+use crate::product_form::zero_forms;
 use gadget_digits::digit_count;
 use no_memory::NoMemory;
-use ring_poly::{Poly, PolyT};
+use ring_poly::{Poly, PolyT, SumT};
 use spiral_model::ParamSet;
 use std::alloc::Global;
 use std::marker::Model;
@@ -18,8 +19,10 @@ pub struct Room {
     pub(crate) digits: Vec<u64>,
     /// one of its digits
     pub(crate) poly: Poly,
-    /// the same in product form
-    pub(crate) form: PolyT,
+    /// all of them in product form
+    pub(crate) forms: Vec<PolyT>,
+    /// their products with a row of a key
+    pub(crate) sum: SumT,
 }
 
 impl Model for Room {
@@ -30,7 +33,7 @@ impl Model for Room {
 
     ghost view = { λ r. r.set };
 
-    ghost invariant = { λ r. IsRoom r.set r.numbers.items r.digits.items r.poly r.form };
+    ghost invariant = { λ r. IsRoom r.set r.numbers.items r.digits.items r.poly r.forms.items r.sum };
 }
 
 /// By hand: a caller's proof then takes one step for it, and not one for each of its lists.
@@ -41,7 +44,8 @@ impl Drop for Room {
             numbers: _,
             digits: _,
             poly: _,
-            form: _,
+            forms: _,
+            sum: _,
         } = self;
     }
 }
@@ -53,13 +57,14 @@ impl Room {
         ensures { IfOk result (λ room. room ≡ set.now) }
     {
         let degree = set.degree as usize;
-        let count = digit_count(set.least_width()) as usize;
+        let count = digit_count(set.least_width());
         Ok(Room {
             set: *set,
             numbers: vec![in alloc; 0u64; degree]?,
-            digits: vec![in alloc; 0u64; count * degree]?,
+            digits: vec![in alloc; 0u64; count as usize * degree]?,
             poly: Poly::zero(alloc, degree)?,
-            form: PolyT::zero(alloc, degree)?,
+            forms: zero_forms(alloc, degree, count)?,
+            sum: SumT::zero(alloc, degree)?,
         })
     }
 }

@@ -1,6 +1,6 @@
 -- The columns of a translated GSW ciphertext, by row and digit.
-use Rattle.std.proofs.Common.{◌≡◌, ℕ, ◌+◌, ◌*◌, ◌/◌, ◌%◌, ◌<◌, ◌≤◌, ◌≢◌, ne_eqb, ◌==◌, if◌then◌else◌, Bool, true, false, List, [], ◌∷◌, ◌++◌, length, get_or, replicate, map, All, Option, Some, None, refl, sym, ◌∙◌, ap, ap₂, subst, arith}
-use Rattle.std.specs.List.{range_with_len, flat_map}
+use Rattle.std.proofs.Common.{◌≡◌, ℕ, ◌+◌, ◌*◌, ◌/◌, ◌%◌, ◌<◌, ◌≤◌, ◌≢◌, ne_eqb, if◌then◌else◌, Bool, true, false, List, [], ◌∷◌, ◌++◌, length, get_or, replicate, map, All, Option, sym, ◌∙◌, ap, ap₂, subst, arith}
+use Rattle.std.specs.List.{range_with_len}
 use Rattle.std.proofs.lemmas.Nat.{div_below, mod_below}
 use Rattle.std.proofs.lemmas.List.Elements.{All-nil, All-push, All-same}
 use Rattle.std.proofs.lemmas.List.FromFn.{length-map-range_with_len}
@@ -14,14 +14,6 @@ use Rattle.spiral_model.specs.Keys.{SetKeys}
 use Rattle.spiral_model.specs.Packing.{conversion_key, lift_row, translated_column, translated_row, translated}
 use Rattle.regev_code.specs.Products.{HasShape}
 use Rattle.regev_code.proofs.Products.{zeros_shape}
-
--- ---- the rows of a set
-
-pub rows-packed : (set : ParamSet) → set.pack ≡ true → rows set ≡ 1
-rows-packed set packs = ap (λ (b : Bool). if b then 1 else set.n) packs
-
-pub rows-plain : (set : ParamSet) → set.pack ≡ false → rows set ≡ set.n
-rows-plain set plain = ap (λ (b : Bool). if b then 1 else set.n) plain
 
 -- ---- a column of row 0
 
@@ -52,28 +44,24 @@ zeros-rows N m count set out degree rows_are zeros =
 
 -- ---- one column
 
+-- that of row 0,
 pub column-converted : (set : ParamSet) (keys : SetKeys) (c out : Cipher) (r : ℕ) → r ≡ 0 → out ≡ lifted set.degree (rows set) 0 (conversion_key keys.conv) c
     → out ≡ translated_column set keys c r
 unfolding translated_column
 column-converted set keys c out r none worked = rw none worked
 
+-- of a further row where the set packs,
 pub column-same : (set : ParamSet) (keys : SetKeys) (c out : Cipher) (r : ℕ) → r ≢ 0 → set.pack ≡ true → out ≡ c → out ≡ translated_column set keys c r
 unfolding translated_column
 column-same set keys c out r other packs same =
     rw (ne_eqb r 0 other) (same ∙ sym (ap (λ (b : Bool). if b then c else lift_row set keys.lift c r) packs))
 
+-- and where it doesn't
 pub column-lifted : (set : ParamSet) (keys : SetKeys) (c out : Cipher) (r : ℕ) → r ≢ 0 → set.pack ≡ false → out ≡ lift_row set keys.lift c r
     → out ≡ translated_column set keys c r
 unfolding translated_column
 column-lifted set keys c out r other plain worked =
     rw (ne_eqb r 0 other) (worked ∙ sym (ap (λ (b : Bool). if b then c else lift_row set keys.lift c r) plain))
-
-pub shape-same : (N : ℕ) (set : ParamSet) (c out : Cipher) → set.pack ≡ true → out ≡ c → HasShape N 2 c → HasShape N (rows set + 1) out
-shape-same N set c out packs same shape =
-    subst (λ (m : ℕ). HasShape N (m + 1) out) (sym (rows-packed set packs)) (subst (λ (x : Cipher). HasShape N 2 x) (sym same) shape)
-
-pub shape-plain : (N : ℕ) (set : ParamSet) (out : Cipher) → set.pack ≡ false → HasShape N (set.n + 1) out → HasShape N (rows set + 1) out
-shape-plain N set out plain shape = subst (λ (m : ℕ). HasShape N (m + 1) out) (sym (rows-plain set plain)) shape
 
 -- ---- all columns, one place after the other
 
@@ -81,13 +69,14 @@ shape-plain N set out plain shape = subst (λ (m : ℕ). HasShape N (m + 1) out)
 abbrev pub column_at : ParamSet → SetKeys → List Cipher → ℕ → Cipher
 column_at set keys bits place = translated_column set keys (cipher_at bits (place % digit_count set.w_gsw)) (place / digit_count set.w_gsw)
 
--- the row of a place is one of the set's, and its digit one of the bit's
+-- the row of a place is one of the set's,
 pub row_within : (set : ParamSet) (place end digits : ℕ) → digits ≡ digit_count set.w_gsw → end ≡ gsw_count set → 1 ≤ digits → place < end → place / digits ≤ rows set
 row_within set place end digits count all some h =
     let whole : end ≡ (rows set + 1) * digits = all ∙ ap (λ (t : ℕ). (rows set + 1) * t) (sym count) in
     let below : place / digits < rows set + 1 = div_below place digits (rows set + 1) some (subst (λ (n : ℕ). place < n) whole h) in
     omega (arith, below)
 
+-- and its digit one of the bit's
 pub digit_within : (set : ParamSet) (place digits : ℕ) (bits : List Cipher) → digits ≡ digit_count set.w_gsw → length bits ≡ digit_count set.w_gsw → 1 ≤ digits
     → place % digits < length bits
 digit_within set place digits bits count all some =
@@ -100,6 +89,7 @@ pub record Translates (N : ℕ) (set : ParamSet) (keys : SetKeys) (bits : List C
   pub shapes : All (HasShape N (rows set + 1)) columns
   pub kept : scratch ≡ set
 
+-- none so far
 pub translates-none : (N : ℕ) (set : ParamSet) (keys : SetKeys) (bits columns : List Cipher) (scratch : ParamSet) → columns ≡ [] → scratch ≡ set
     → Translates N set keys bits 0 columns scratch
 translates-none N set keys bits columns scratch none kept = record {
@@ -108,6 +98,7 @@ translates-none N set keys bits columns scratch none kept = record {
   kept = kept;
 }
 
+-- one more
 pub translates-more : (N digits : ℕ) (set : ParamSet) (keys : SetKeys) (bits : List Cipher) (place : ℕ) (columns new : List Cipher) (bit column : Cipher) (scratch after : ParamSet)
     → digits ≡ digit_count set.w_gsw → Translates N set keys bits place columns scratch → bit ≡ cipher_at bits (place % digits)
     → column ≡ translated_column set keys bit (place / digits) → HasShape N (rows set + 1) column → after ≡ scratch → new ≡ columns ++ column ∷ []

@@ -4,3 +4,4 @@ mod Places
 mod Held
 mod Values
 mod Terms
+mod Summed

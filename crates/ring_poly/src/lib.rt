@@ -6,9 +6,11 @@ mod pairs;
 mod poly;
 mod product;
 mod ring;
+mod sums;
 
 pub use pairs::are_residues;
 pub use poly::Poly;
 pub use product::PolyT;
 pub use ring::Ring;
+pub use sums::SumT;
 pub use word_prime::Q;

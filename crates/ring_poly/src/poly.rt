@@ -1,16 +1,17 @@
 //! Polynomials by their coefficients.
 
-ghost use Rattle.std.specs.Prelude.{◌≡◌, ◌-◌, ◌*◌, ◌/◌, ◌<◌, ◌≤◌, ◌==◌, if◌then◌else◌, pos, length, replicate, IfOk};
+ghost use Rattle.std.specs.Prelude.{◌≡◌, ◌-◌, ◌*◌, ◌/◌, ◌<◌, ◌≤◌, ◌==◌, if◌then◌else◌, pos, length, replicate, All, IfOk};
 ghost use Rattle.negacyclic.specs.Residues.{norm};
 ghost use Rattle.negacyclic.specs.Ring.{reduced, ring_add, ring_sub};
 ghost use Rattle.spiral_sets.specs.Sets.{q};
+ghost use Rattle.word_prime.specs.Halves.{p2};
 ghost use Rattle.ring_poly.specs.Polynomials.{IsDegree, AreResidues};
 
 use crate::{lanes, pairs};
 use no_memory::NoMemory;
 use std::alloc::Global;
 use std::marker::Model;
-use word_prime::{P1, P2, add_lanes, reduce_lanes, sub_lanes};
+use word_prime::{P1, P2, add_lanes, narrow_lanes, reduce_lanes, sub_lanes};
 
 /// A polynomial, seen as the list of its N coefficients, each a residue below q. It is held as the residues of the coefficients
 /// modulo the two primes.
@@ -127,6 +128,16 @@ impl Poly {
     {
         reduce_lanes::<P1>(c, &mut self.ones);
         reduce_lanes::<P2>(c, &mut self.twos);
+    }
+
+    /// Becomes the polynomial with these coefficients, each below both primes, as many as it had. It takes no memory and no division.
+    pub fn put_small(&mut self, c: &[u64])
+        requires same_length { length c.now ≡ length self.old }
+        requires below { All (λ x. x < p2) c.now }
+        ensures { self.new ≡ c.now }
+    {
+        narrow_lanes::<P1>(c, &mut self.ones);
+        narrow_lanes::<P2>(c, &mut self.twos);
     }
 
     /// Becomes the sum of itself and b. It takes no memory.

@@ -25,7 +25,8 @@ pub length-poly_bytes : (poly : Poly) → length (poly_bytes poly) ≡ 7 * lengt
 length-poly_bytes [] = refl
 length-poly_bytes (x ∷ xs) = omega (arith, length-append (number 7 x) (poly_bytes xs), length-digits 256 7 x, length-poly_bytes xs)
 
-length-rows_bytes : (N : ℕ) (cipher : Cipher) → ((i : ℕ) → i < length cipher → length (get_or cipher i []) ≡ N) → length (rows_bytes cipher) ≡ length cipher * (7 * N)
+length-rows_bytes : (N : ℕ) (cipher : Cipher) → ((i : ℕ) → i < length cipher → length (get_or cipher i []) ≡ N)
+    → length (rows_bytes cipher) ≡ length cipher * (7 * N)
 length-rows_bytes N [] each = omega arith
 length-rows_bytes N (row ∷ rows) each =
     let first : length row ≡ N = each 0 (omega arith) in
@@ -46,10 +47,13 @@ length-cipher_bytes N m (cipher ∷ ciphers) each =
     omega (arith, length-append (rows_bytes cipher) (flat_map rows_bytes ciphers), first, rest)
 
 pub query_bytes : (set : ParamSet) → ciphertext_count (query_ciphertexts set) * ((query_rows set + 1) * (7 * set.degree)) ≡ query_len set
-query_bytes set = elim set.direct as (λ direct. ciphertext_count (query_ciphertexts (record set { direct = direct })) * ((query_rows (record set { direct = direct }) + 1) * (7 * set.degree)) ≡ query_len (record set { direct = direct })) [
-  | true ↦ omega arith
-  | false ↦ omega arith
-]
+query_bytes set =
+    elim set.direct as (λ direct.
+    ciphertext_count (query_ciphertexts (record set { direct = direct })) * ((query_rows (record set { direct = direct }) + 1) * (7 * set.degree))
+    ≡ query_len (record set { direct = direct })) [
+      | true ↦ omega arith
+      | false ↦ omega arith
+    ]
 
 -- The body of a Query has the bytes that its set says.
 pub length-query_body : (query : CipherBody) → IsQuery query → length (cipher_bytes query.ciphers) ≡ query_len query.set
@@ -70,12 +74,22 @@ ternary_bytes secret h = All-map (λ b. b ≤ 2) secret_byte secret (λ k d lt. 
 
 -- the index fits its 8 bytes
 index_fits : (state : QueryState) → IsState state → state.index < 256 ^ 8
-index_fits state is = let sizes = set_sizes state.set is.known in let low : state.index < max_records state.set = is.index in let large : 4096 < 256 ^ 8 = lit< tt in omega arith
+index_fits state is =
+    let sizes = set_sizes state.set is.known in
+    let low : state.index < max_records state.set = is.index in
+    let large : 4096 < 256 ^ 8 = lit< tt in
+    omega arith
 
 pub length-state_body : (state : QueryState) → IsState state → length (state_body state) ≡ state_len state.set
 unfolding state_body
 length-state_body state is =
-    omega (arith, length-append (number 8 state.index) (map secret_byte state.secret), length-digits 256 8 state.index, length-map state.secret secret_byte, is.secret_length)
+    omega (
+      arith,
+      length-append (number 8 state.index) (map secret_byte state.secret),
+      length-digits 256 8 state.index,
+      length-map state.secret secret_byte,
+      is.secret_length,
+    )
 
 pub index_in_body : (state : QueryState) → IsState state → number_of 256 (take 8 (state_body state)) ≡ state.index
 unfolding state_body
@@ -94,10 +108,18 @@ state_body_is state body front back = sym (take-append-drop 8 body) ∙ rw (fron
 -- ---- the body of a Reply
 
 count_fits : (reply : SwitchedReply) → IsReply reply → reply.count < 256 ^ 8
-count_fits reply is = let sizes = set_sizes reply.set is.known in let low : reply.count ≤ max_records reply.set = is.count in let large : 4096 < 256 ^ 8 = lit< tt in omega arith
+count_fits reply is =
+    let sizes = set_sizes reply.set is.known in
+    let low : reply.count ≤ max_records reply.set = is.count in
+    let large : 4096 < 256 ^ 8 = lit< tt in
+    omega arith
 
 record_length_fits : (reply : SwitchedReply) → IsReply reply → reply.record_length < 256 ^ 8
-record_length_fits reply is = let sizes = set_sizes reply.set is.known in let low : reply.record_length ≤ capacity reply.set = is.record_length in let large : 49152 < 256 ^ 8 = lit< tt in omega arith
+record_length_fits reply is =
+    let sizes = set_sizes reply.set is.known in
+    let low : reply.record_length ≤ capacity reply.set = is.record_length in
+    let large : 49152 < 256 ^ 8 = lit< tt in
+    omega arith
 
 pub length-packed : (set : ParamSet) (width : ℕ) (poly : List ℕ) → length (packed set width poly) ≡ packed_len set width
 length-packed set width poly = length-repacked width 8 (packed_len set width) poly
@@ -129,7 +151,8 @@ record_length_in_body reply is =
 pub polys_in_body : (reply : SwitchedReply) → drop 16 (reply_body reply) ≡ packed_polys reply
 polys_in_body reply =
     sym (drop-drop 8 8 (reply_body reply))
-    ∙ rw (reply_body_parts reply, behind_number 8 reply.count (number 8 reply.record_length ++ packed_polys reply)) (behind_number 8 reply.record_length (packed_polys reply))
+    ∙ rw (reply_body_parts reply, behind_number 8 reply.count (number 8 reply.record_length ++ packed_polys reply))
+    (behind_number 8 reply.record_length (packed_polys reply))
 
 pub length-reply_body : (reply : SwitchedReply) → IsReply reply → length (reply_body reply) ≡ reply_len reply.set
 length-reply_body reply is =
@@ -153,4 +176,10 @@ reply_body_is reply body count record_length polys =
 pub length-database_body : (table : RecordTable) → length (database_body table) ≡ 16 + length table.bytes
 unfolding database_body
 length-database_body table =
-    omega (arith, length-append (number 8 (record_count table) ++ number 8 table.record_length) table.bytes, length-append (number 8 (record_count table)) (number 8 table.record_length), length-digits 256 8 (record_count table), length-digits 256 8 table.record_length)
+    omega (
+      arith,
+      length-append (number 8 (record_count table) ++ number 8 table.record_length) table.bytes,
+      length-append (number 8 (record_count table)) (number 8 table.record_length),
+      length-digits 256 8 (record_count table),
+      length-digits 256 8 table.record_length,
+    )

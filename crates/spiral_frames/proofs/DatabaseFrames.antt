@@ -14,7 +14,7 @@ use Rattle.spiral_model.specs.Databases.{RecordTable, IsTable, record_count}
 use Rattle.frame_headers.specs.Headers.{header, number}
 use Rattle.frame_headers.specs.declared.kind.FrameKind.TheVariants.{Database}
 use Rattle.spiral_frames.specs.Frames.{database_body, frame_of, Message, database_message, IsOne}
-use Rattle.frame_headers.specs.Checks.{Check, Outcome, checked, passes, refuses, ends_before, accepts, if_handled, set_in, name_in, name_len_in, body_len_in, header_len_in, number_at, header_checks}
+use Rattle.frame_headers.specs.Checks.{Check, Outcome, checked, passes, refuses, ends_before, accepts, set_in, name_in, name_len_in, body_len_in, header_len_in, number_at, header_checks}
 use Rattle.spiral_frames.specs.FrameChecks.{database_checks, after_header, front_checks, front_outcome, whole_refusal, database_refusal}
 use Rattle.frame_headers.proofs.HeaderLaws.{header_parts, number_is}
 use Rattle.spiral_frames.proofs.FrameLaws.{only_front, database_frame_is}
@@ -35,7 +35,7 @@ number_same limit x place fits = ap (number_of 256) (piece limit x place 8 fits)
 
 set_same : (x y : List ℕ) → name_in x ≡ name_in y → set_in x ≡ set_in y
 unfolding set_in
-set_same x y e = ap (λ (name : List ℕ). if_handled (set_of name)) e
+set_same x y e = ap set_of e
 
 not_ending : (fails : Bool) (error : FrameError) (rest : Outcome) → (if fails then refuses error else rest) ≡ ends_before → rest ≡ ends_before
 not_ending true error rest h = absurd (cc)
@@ -247,7 +247,7 @@ module _ (x : List ℕ) (set : ParamSet) (below : All (λ b. b < 256) x) (named 
 
   pub is_table : IsTable (table_in x set)
   is_table = record {
-    known = (set_in-named x set named).0.known;
+    known = (set_in-named x set named).known;
     some_length = has.some_length;
     record_length = has.record_length;
     whole = records_len ∙ ap (λ (k : ℕ). k * len) (sym count_is);
@@ -256,7 +256,7 @@ module _ (x : List ℕ) (set : ParamSet) (below : All (λ b. b < 256) x) (named 
   }
 
   name_is : take n (drop 7 x) ≡ name_of set
-  name_is = (set_in-named x set named).0.name_is
+  name_is = (set_in-named x set named).name_is
 
   name_len : get_or x 6 0 ≡ length (name_of set)
   name_len =
@@ -291,7 +291,7 @@ module _ (x : List ℕ) (set : ParamSet) (below : All (λ b. b < 256) x) (named 
   spelled = spelled_parts ∙ sym (database_frame_is (table_in x set))
 
   pub is_one : IsOne Database x (database_message (table_in x set))
-  is_one = record { kind_is = refl; spells = record { fits = ((set_in-named x set named).1, is_table); spelled = spelled } }
+  is_one = record { kind_is = refl; spells = record { is = is_table; spelled = spelled } }
 
 -- ---- the refusal of a whole input
 

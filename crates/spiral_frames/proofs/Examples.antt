@@ -1,5 +1,5 @@
 -- Frames and refusals on small cases that were worked out by hand.
-use Rattle.std.proofs.Common.{◌≡◌, ℕ, List, [], ◌∷◌, ◌++◌, ◌^◌, take, drop, get_or, refl, true, false, Some, None}
+use Rattle.std.proofs.Common.{◌≡◌, ℕ, List, [], ◌∷◌, ◌++◌, ◌^◌, take, drop, get_or, refl, Some, None}
 use Rattle.negacyclic.specs.Digits.{digit, digits, number_of}
 use Rattle.spiral_sets.specs.declared.param_set.ParamSet.{ParamSet}
 use Rattle.spiral_sets.proofs.SampleSet.{sample, edge}
@@ -59,11 +59,13 @@ abbrev spiral : ParamSet
 spiral = get_or SETS 5 sample
 
 refuse_spelled : frame_of (refuse_message (record { set = spiral; code = 12; place = 0 }))
-    ≡ 83 ∷ 80 ∷ 73 ∷ 82 ∷ 1 ∷ 4 ∷ 11 ∷ 115 ∷ 112 ∷ 105 ∷ 114 ∷ 97 ∷ 108 ∷ 45 ∷ 50 ∷ 48 ∷ 52 ∷ 56 ∷ 9 ∷ 0 ∷ 0 ∷ 0 ∷ 0 ∷ 0 ∷ 0 ∷ 0 ∷ 12 ∷ 0 ∷ 0 ∷ 0 ∷ 0 ∷ 0 ∷ 0 ∷ 0 ∷ 0 ∷ []
+    ≡ 83 ∷ 80 ∷ 73 ∷ 82 ∷ 1 ∷ 4 ∷ 11 ∷ 115 ∷ 112 ∷ 105 ∷ 114 ∷ 97 ∷ 108 ∷ 45 ∷ 50 ∷ 48 ∷ 52 ∷ 56
+    ∷ 9 ∷ 0 ∷ 0 ∷ 0 ∷ 0 ∷ 0 ∷ 0 ∷ 0 ∷ 12 ∷ 0 ∷ 0 ∷ 0 ∷ 0 ∷ 0 ∷ 0 ∷ 0 ∷ 0 ∷ []
 unfolding frame_of header refuse_body digits digit
 refuse_spelled = refl
 
-setup_spelled : frame_of (setup_message (record { set = edge; ciphers = [] })) ≡ 83 ∷ 80 ∷ 73 ∷ 82 ∷ 1 ∷ 1 ∷ take 9 (drop 6 two_records_frame) ++ 0 ∷ 0 ∷ 0 ∷ 0 ∷ 0 ∷ 0 ∷ 0 ∷ 0 ∷ []
+setup_spelled : frame_of (setup_message (record { set = edge; ciphers = [] }))
+    ≡ 83 ∷ 80 ∷ 73 ∷ 82 ∷ 1 ∷ 1 ∷ take 9 (drop 6 two_records_frame) ++ 0 ∷ 0 ∷ 0 ∷ 0 ∷ 0 ∷ 0 ∷ 0 ∷ 0 ∷ []
 unfolding frame_of header cipher_bytes digits digit
 setup_spelled = refl
 

@@ -57,7 +57,8 @@ same_cipher N m a b ha hb e =
     (ha.rows_count ∙ sym hb.rows_count) e
 
 -- Ciphertexts of one shape, as many, with the same bytes are the same.
-pub same_ciphers : (N m : ℕ) (xs ys : List Cipher) → All (IsCipher N m) xs → All (IsCipher N m) ys → length xs ≡ length ys → cipher_bytes xs ≡ cipher_bytes ys → xs ≡ ys
+pub same_ciphers : (N m : ℕ) (xs ys : List Cipher) → All (IsCipher N m) xs → All (IsCipher N m) ys
+    → length xs ≡ length ys → cipher_bytes xs ≡ cipher_bytes ys → xs ≡ ys
 unfolding cipher_bytes
 same_ciphers N m xs ys hx hy count e =
     same_by_pieces (IsCipher N m) rows_bytes ((m + 1) * (7 * N)) (rows_of_cipher N m) (same_cipher N m) xs ys hx hy count e
@@ -95,7 +96,8 @@ same_of_set k l hk hl same e =
     sym (joined_bytes (rounds_of k) (lifts_of k) (conversions_of k)) ∙ ap cipher_bytes (runs_joined k) ∙ e ∙ ap cipher_bytes (sym (runs_joined moved))
     ∙ joined_bytes (rounds_of moved) (lifts_of moved) (conversions_of moved) in
     sym (runs_joined k)
-    ∙ same_runs k.set (rounds_of k) (lifts_of k) (conversions_of k) (rounds_of moved) (lifts_of moved) (conversions_of moved) (runs_of_setup k hk) (runs_of_setup moved is) bytes
+    ∙ same_runs k.set (rounds_of k) (lifts_of k) (conversions_of k) (rounds_of moved) (lifts_of moved) (conversions_of moved)
+    (runs_of_setup k hk) (runs_of_setup moved is) bytes
     ∙ runs_joined moved
 
 -- Key bodies of one set with the same bytes are the same.
@@ -105,9 +107,9 @@ same_setup_body k l hk hl same e = keys_by k l same (same_of_set k l hk hl same 
 -- Keys whose frames are the same bytes are one.
 pub same_keys : (x : List ℕ) (k l : CipherBody) → IsOne Setup x (setup_message k) → IsOne Setup x (setup_message l) → k ≡ l
 same_keys x k l hk hl =
-    let fk = hk.spells.fits in
-    let fl = hl.spells.fits in
+    let fk = hk.spells.is in
+    let fl = hl.spells.is in
     let fronts =
-    same_front 1 setup_len k.set l.set (cipher_bytes k.ciphers) (cipher_bytes l.ciphers) fk.1.known fl.1.known
+    same_front 1 setup_len k.set l.set (cipher_bytes k.ciphers) (cipher_bytes l.ciphers) fk.known fl.known
     (sym (hk.spells.spelled ∙ setup_frame_is k fk) ∙ hl.spells.spelled ∙ setup_frame_is l fl) in
-    same_setup_body k l fk.1 fl.1 fronts.0 fronts.1
+    same_setup_body k l fk fl fronts.0 fronts.1

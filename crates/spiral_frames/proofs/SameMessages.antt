@@ -38,8 +38,8 @@ state_by s t set index secret = λ i. record { set = set i; index = index i; sec
 -- States whose frames are the same bytes are one.
 pub same_state : (x : List ℕ) (s t : QueryState) → IsOne State x (state_message s) → IsOne State x (state_message t) → s ≡ t
 same_state x s t hs ht =
-    let fs = hs.spells.fits.1 in
-    let ft = ht.spells.fits.1 in
+    let fs = hs.spells.is in
+    let ft = ht.spells.is in
     let fronts =
     same_front 5 state_len s.set t.set (state_body s) (state_body t) fs.known ft.known (sym (frame_of_state x s hs) ∙ frame_of_state x t ht) in
     let bytes : map secret_byte s.secret ≡ map secret_byte t.secret =
@@ -120,8 +120,8 @@ reply_by r u set count record_length body mask =
 -- Replies whose frames are the same bytes are one.
 pub same_reply : (x : List ℕ) (r u : SwitchedReply) → IsOne Reply x (reply_message r) → IsOne Reply x (reply_message u) → r ≡ u
 same_reply x r u hr hu =
-    let fr = hr.spells.fits.1 in
-    let fu = hu.spells.fits.1 in
+    let fr = hr.spells.is in
+    let fu = hu.spells.is in
     let fronts =
     same_front 3 reply_len r.set u.set (reply_body r) (reply_body u) fr.known fu.known (sym (frame_of_reply x r hr) ∙ frame_of_reply x u hu) in
     let bytes : polys_bytes r.set r.body r.mask ≡ polys_bytes r.set u.body u.mask =

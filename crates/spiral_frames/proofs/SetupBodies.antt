@@ -36,12 +36,15 @@ rows_of_one_shape m (c ∷ counts) have =
     ∙ ap (λ (n : ℕ). replicate n m) (sym (sum_by-cons (λ (k : Ciphertexts). k.how_many) c counts))
 
 -- and their bytes
-bytes_of_one_shape : (set : ParamSet) (m : ℕ) (counts : List Ciphertexts) → HaveRows m counts → bytes_of set counts ≡ run_len set.degree m (ciphertext_count counts)
+bytes_of_one_shape : (set : ParamSet) (m : ℕ) (counts : List Ciphertexts) → HaveRows m counts
+    → bytes_of set counts ≡ run_len set.degree m (ciphertext_count counts)
 bytes_of_one_shape set m [] have = omega arith
 bytes_of_one_shape set m (c ∷ counts) have =
-    let same : c.how_many * (7 * (set.degree * (c.m + 1))) ≡ c.how_many * (7 * (set.degree * (m + 1))) = ap (λ (r : ℕ). c.how_many * (7 * (set.degree * (r + 1)))) have.0 in
+    let same : c.how_many * (7 * (set.degree * (c.m + 1))) ≡ c.how_many * (7 * (set.degree * (m + 1))) =
+    ap (λ (r : ℕ). c.how_many * (7 * (set.degree * (r + 1)))) have.0 in
     let turned : c.how_many * (7 * (set.degree * (m + 1))) ≡ run_len set.degree m c.how_many = omega arith in
-    let both : run_len set.degree m c.how_many + run_len set.degree m (ciphertext_count counts) ≡ run_len set.degree m (c.how_many + ciphertext_count counts) = omega arith in
+    let both : run_len set.degree m c.how_many + run_len set.degree m (ciphertext_count counts)
+    ≡ run_len set.degree m (c.how_many + ciphertext_count counts) = omega arith in
     sum_by-cons (λ (k : Ciphertexts). k.how_many * (7 * (set.degree * (k.m + 1)))) c counts
     ∙ ap₂ (λ (x y : ℕ). x + y) (same ∙ turned) (bytes_of_one_shape set m counts have.1)
     ∙ both
@@ -198,6 +201,9 @@ setup_of_runs set rounds lifts conversions known are =
     let one : length first ≡ length rounds = length-replicate {A = ℕ} (rounds_count set) 1 ∙ sym are.rounds_many in
     let two : length (first ++ second) ≡ length (rounds ++ lifts) =
     omega (arith, one, length-append first second, length-append rounds lifts, length-replicate (lifts_count set) set.n, are.lifts_many) in
+    let total : length (rounds ++ lifts ++ conversions) ≡ ciphertext_count (setup_ciphertexts set) =
+    omega
+    (arith, length-append (rounds ++ lifts) conversions, length-append rounds lifts, setup_count set, are.rounds_many, are.lifts_many, are.conversions_many) in
     let front : FitRows N (first ++ second) (rounds ++ lifts) =
     fit_both N first second rounds lifts one (run_fits N 1 (rounds_count set) rounds are.rounds_many are.rounds_fit)
     (run_fits N set.n (lifts_count set) lifts are.lifts_many are.lifts_fit) in
@@ -206,7 +212,7 @@ setup_of_runs set rounds lifts conversions known are =
     (run_fits N (rows set) (conversions_count set) conversions are.conversions_many are.conversions_fit) in
     record {
       known = known;
-      count = omega (arith, length-append (rounds ++ lifts) conversions, length-append rounds lifts, setup_count set, are.rounds_many, are.lifts_many, are.conversions_many);
+      count = total;
       shapes = subst (λ (rs : List ℕ). FitRows N rs (rounds ++ lifts ++ conversions)) (sym (setup_rows set)) whole;
     }
 
@@ -265,7 +271,8 @@ module _ (keys : CipherBody) where
   -- All polynomials have the set's degree.
   pub setup_degrees : IsSetup keys → All (λ cipher. All (λ poly. length poly ≡ keys.set.degree) cipher) keys.ciphers
   setup_degrees is =
-      All-from_get_or (λ (cipher : Cipher). All (λ poly. length poly ≡ keys.set.degree) cipher) keys.ciphers [] (λ x h k d g. ((is.shapes x h).residues k d g).0)
+      All-from_get_or (λ (cipher : Cipher). All (λ poly. length poly ≡ keys.set.degree) cipher) keys.ciphers []
+      (λ x h k d g. ((is.shapes x h).residues k d g).0)
 
 -- ---- their bytes
 
@@ -337,18 +344,21 @@ module _ (keys : CipherBody) (is : IsSetup keys) where
   pub rounds_in_body : cipher_bytes (rounds_of keys) ≡ take (rounds_len keys.set) (cipher_bytes keys.ciphers)
   rounds_in_body =
       sym (ap (take (rounds_len keys.set)) parts
-      ∙ part_one (cipher_bytes (rounds_of keys)) (cipher_bytes (lifts_of keys)) (cipher_bytes (conversions_of keys)) (rounds_len keys.set) (lifts_len keys.set) first second)
+      ∙ part_one (cipher_bytes (rounds_of keys)) (cipher_bytes (lifts_of keys)) (cipher_bytes (conversions_of keys)) (rounds_len keys.set) (lifts_len keys.set)
+      first second)
 
   pub lifts_in_body : cipher_bytes (lifts_of keys) ≡ take (lifts_len keys.set) (drop (rounds_len keys.set) (cipher_bytes keys.ciphers))
   lifts_in_body =
       sym (ap (λ (t : List ℕ). take (lifts_len keys.set) (drop (rounds_len keys.set) t)) parts
-      ∙ part_two (cipher_bytes (rounds_of keys)) (cipher_bytes (lifts_of keys)) (cipher_bytes (conversions_of keys)) (rounds_len keys.set) (lifts_len keys.set) first second)
+      ∙ part_two (cipher_bytes (rounds_of keys)) (cipher_bytes (lifts_of keys)) (cipher_bytes (conversions_of keys)) (rounds_len keys.set) (lifts_len keys.set)
+      first second)
 
-  pub conversions_in_body : cipher_bytes (conversions_of keys) ≡ take (conversions_len keys.set) (drop (rounds_len keys.set + lifts_len keys.set) (cipher_bytes keys.ciphers))
+  pub conversions_in_body : cipher_bytes (conversions_of keys)
+      ≡ take (conversions_len keys.set) (drop (rounds_len keys.set + lifts_len keys.set) (cipher_bytes keys.ciphers))
   conversions_in_body =
       sym (ap (λ (t : List ℕ). take (conversions_len keys.set) (drop (rounds_len keys.set + lifts_len keys.set) t)) parts
-      ∙ part_three (cipher_bytes (rounds_of keys)) (cipher_bytes (lifts_of keys)) (cipher_bytes (conversions_of keys)) (rounds_len keys.set) (lifts_len keys.set) first second
-      (conversions_len keys.set) third)
+      ∙ part_three (cipher_bytes (rounds_of keys)) (cipher_bytes (lifts_of keys)) (cipher_bytes (conversions_of keys)) (rounds_len keys.set)
+      (lifts_len keys.set) first second (conversions_len keys.set) third)
 
 -- Bytes of that length whose three parts are the bytes of runs are those of all their ciphertexts.
 pub body_of_runs : (set : ParamSet) (body : List ℕ) (rounds lifts conversions : List Cipher) → length body ≡ setup_len set

@@ -8,17 +8,16 @@ use Rattle.negacyclic.specs.Digits.{number_of}
 use Rattle.negacyclic.proofs.Digits.{length-digits}
 use Rattle.spiral_sets.specs.declared.param_set.ParamSet.{ParamSet}
 use Rattle.frame_headers.specs.declared.frame_error.FrameError.{FrameError}
-use Rattle.spiral_sets.specs.Sets.{IsBuilt, name_of, set_of, max_records, capacity}
+use Rattle.spiral_sets.specs.Sets.{name_of, set_of, max_records, capacity}
 use Rattle.spiral_model.specs.Databases.{RecordTable, IsTable, record_count}
 use Rattle.frame_headers.specs.Headers.{header, number}
 use Rattle.frame_headers.specs.declared.kind.FrameKind.TheVariants.{Database}
 use Rattle.spiral_frames.specs.Frames.{database_body, database_message, IsOne}
-use Rattle.frame_headers.specs.Checks.{Outcome, checked, passes, accepts, is_none, if_handled, wrong_length, needed_in, kind_in, name_in, set_in, body_len_in, header_len_in, number_at, header_checks}
+use Rattle.frame_headers.specs.Checks.{Outcome, checked, passes, accepts, is_none, wrong_length, needed_in, kind_in, name_in, set_in, body_len_in, header_len_in, number_at, header_checks}
 use Rattle.spiral_frames.specs.FrameChecks.{database_checks, after_header, front_outcome, database_refusal}
 use Rattle.spiral_sets.proofs.SetBounds.{max_records-most, capacity-most}
 use Rattle.frame_headers.proofs.HeaderLaws.{number_at_front, behind_number, length-header, header_parts}
 use Rattle.spiral_sets.proofs.SetNames.{set_of_name}
-use Rattle.frame_headers.proofs.HeaderReading.{handled}
 use Rattle.frame_headers.proofs.Outcomes.{AllPass, passed_all, and_then, checked-append}
 use Rattle.spiral_frames.proofs.FrameLaws.{database_frame_is}
 use Rattle.spiral_frames.proofs.DatabaseFrames.{not_refused}
@@ -50,11 +49,8 @@ module _ (x : List ℕ) (table : RecordTable) (one : IsOne Database x (database_
   abbrev n : ℕ
   n = length (name_of set)
 
-  built : IsBuilt set
-  built = one.spells.fits.0
-
   is : IsTable table
-  is = one.spells.fits.1
+  is = one.spells.is
 
   fit : (count < 256 ^ 8) × ((len < 256 ^ 8) × (body < 256 ^ 8))
   fit =
@@ -88,7 +84,7 @@ module _ (x : List ℕ) (table : RecordTable) (one : IsOne Database x (database_
 
   set_is : set_in x ≡ Some set
   unfolding set_in
-  set_is = ap (λ (name : List ℕ). if_handled (set_of name)) name_is ∙ ap if_handled (set_of_name set is.known) ∙ handled set built
+  set_is = ap set_of name_is ∙ set_of_name set is.known
 
   at_body : drop (7 + get_or x 6 0) x ≡ number 8 body ++ database_body table
   at_body =
@@ -121,7 +117,13 @@ module _ (x : List ℕ) (table : RecordTable) (one : IsOne Database x (database_
   length_body : length (database_body table) ≡ body
   length_body =
       ap length body_parts
-      ∙ omega (arith, length-append (number 8 count) (number 8 len ++ table.bytes), length-append (number 8 len) table.bytes, length-digits 256 8 count, length-digits 256 8 len)
+      ∙ omega (
+        arith,
+        length-append (number 8 count) (number 8 len ++ table.bytes),
+        length-append (number 8 len) table.bytes,
+        length-digits 256 8 count,
+        length-digits 256 8 len,
+      )
 
   length_is : length x ≡ 15 + get_or x 6 0 + body
   length_is =
@@ -174,5 +176,6 @@ module _ (x : List ℕ) (table : RecordTable) (one : IsOne Database x (database_
   spelled_not_refused = not_refused x all_passed (length_is ∙ omega (arith, body_is))
 
 -- What is refused is the frame of no database.
-pub refused_not_spelled : (x : List ℕ) (error : FrameError) → database_refusal x ≡ Some error → (table : RecordTable) → IsOne Database x (database_message table) → ⊥
+pub refused_not_spelled : (x : List ℕ) (error : FrameError) → database_refusal x ≡ Some error → (table : RecordTable)
+    → IsOne Database x (database_message table) → ⊥
 refused_not_spelled x error refused table one = let none = spelled_not_refused x table one in cc

@@ -1,9 +1,9 @@
 -- Messages and the frames that spell them.
-use Rattle.std.specs.Prelude.{ℕ, ℤ, List, [], ◌∷◌, ◌++◌, ◌≡◌, ◌+◌, ◌^◌, ◌<◌, length, map, pos, ◌+ℤ◌, unsigned_abs}
+use Rattle.std.specs.Prelude.{ℕ, ℤ, List, ◌∷◌, ◌++◌, ◌≡◌, ◌^◌, ◌<◌, length, map, pos, ◌+ℤ◌, unsigned_abs}
 use Rattle.std.specs.List.{flat_map}
 use Rattle.negacyclic.specs.Digits.{repacked}
 use Rattle.spiral_sets.specs.declared.param_set.ParamSet.{ParamSet}
-use Rattle.spiral_sets.specs.Sets.{IsSet, IsBuilt, q1_bits}
+use Rattle.spiral_sets.specs.Sets.{IsSet, q1_bits}
 use Rattle.spiral_sets.specs.Counts.{packed_len}
 use Rattle.frame_headers.specs.declared.kind.FrameKind.{FrameKind}
 use Rattle.frame_headers.specs.declared.kind.FrameKind.TheVariants.{Setup, Query, Reply, Refuse, State, Database}
@@ -108,13 +108,9 @@ IsMessage (refuse_message refusal) = IsSet refusal.set × (refusal.code < 256) �
 IsMessage (state_message state) = IsState state
 IsMessage (database_message table) = IsTable table
 
--- a message that a frame can carry, of a set that this program handles
-abbrev pub CanBeSent : Message → Type 0
-CanBeSent m = IsBuilt (set_of_message m) × IsMessage m
-
 -- The bytes are the frame of the message, field by field.
 pub record Spell (message : Message) (bytes : List ℕ) : Type 0 where
-  pub fits : CanBeSent message
+  pub is : IsMessage message
   pub spelled : bytes ≡ frame_of message
 
 -- The whole input is one frame, and this is its message of the expected kind.

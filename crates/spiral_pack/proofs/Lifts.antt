@@ -43,9 +43,9 @@ lifts_none N set seen keys c room columns degree same none zeros = record {
 }
 
 -- one more
-pub lifts_more : (N : ℕ) (set : ParamSet) (keys : SetKeys) (c : Cipher) (i : ℕ) (columns new : List Cipher) (room next column : Cipher) (scratch after : ParamSet)
-    → Lifts N set keys c i columns room scratch → next ≡ lift_row scratch keys.lift c (i + 1) → HasShape N (scratch.n + 1) next → after ≡ scratch
-    → column ≡ next → new ≡ columns ++ column ∷ [] → Lifts N set keys c (i + 1) new next after
+pub lifts_more : (N : ℕ) (set : ParamSet) (keys : SetKeys) (c : Cipher) (i : ℕ) (columns new : List Cipher) (room next column : Cipher)
+    (scratch after : ParamSet) → Lifts N set keys c i columns room scratch → next ≡ lift_row scratch keys.lift c (i + 1)
+    → HasShape N (scratch.n + 1) next → after ≡ scratch → column ≡ next → new ≡ columns ++ column ∷ [] → Lifts N set keys c (i + 1) new next after
 lifts_more N set keys c i columns new room next column scratch after lifts worked shape kept form pushed =
     let here : HasShape N (set.n + 1) next = subst (λ (s : ParamSet). HasShape N (s.n + 1) next) lifts.kept shape in
     record {

@@ -2,5 +2,7 @@
 #![tactic(auto)]
 
 mod lift;
+mod packing;
 
 pub use lift::{lift_into, lift_key, lift_matrix};
+pub use packing::pack;

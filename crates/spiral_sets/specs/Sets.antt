@@ -1,5 +1,5 @@
 -- The parameter sets and the numbers derived from their dimensions.
-use Rattle.std.specs.Prelude.{ℕ, Bool, true, false, List, [], ◌∷◌, ◌≡◌, ◌+◌, ◌-◌, ◌*◌, ◌/◌, ◌^◌, ◌||◌, not, nat_le, nat_eq, if◌then◌else◌, slice_index_or, Option, Some, None, codes}
+use Rattle.std.specs.Prelude.{ℕ, Bool, List, [], ◌∷◌, ◌+◌, ◌-◌, ◌*◌, ◌/◌, ◌^◌, ◌||◌, not, nat_le, nat_eq, if◌then◌else◌, slice_index_or, Option, Some, None, codes}
 use Rattle.std.proofs.Common.{zero, suc}
 use Rattle.std.specs.List.{Contains}
 use lib.Pointwise.{pointwise}
@@ -26,11 +26,6 @@ named_among name (other ∷ others) [] = None
 -- the set of a name
 abbrev pub set_of : List ℕ → Option ParamSet
 set_of name = named_among name names SETS
-
--- the sets that this program handles so far: those that don't pack, that is tiny-spiral, tiny-stream, edge-256, spiral-2048,
--- stream-2048 and big-2048
-abbrev pub IsBuilt : ParamSet → Type 0
-IsBuilt set = set.pack ≡ false
 
 -- q, the modulus of the ring: 268369921 * 249561089
 unfoldable pub q : ℕ

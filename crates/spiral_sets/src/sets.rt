@@ -1,5 +1,5 @@
-ghost use Rattle.std.specs.Prelude.{◌≡◌, ◌<◌, ◌≤◌, ◌↔◌, IsTrue, slice_get, Some, OnSome, IfSome};
-ghost use Rattle.spiral_sets.specs.Sets.{IsSet, IsBuilt, name_of, set_of, max_records, capacity, rho};
+ghost use Rattle.std.specs.Prelude.{◌≡◌, ◌<◌, ◌≤◌, slice_get, Some, OnSome, IfSome};
+ghost use Rattle.spiral_sets.specs.Sets.{IsSet, name_of, set_of, max_records, capacity, rho};
 ghost use Rattle.spiral_sets.specs.Counts.{words_needed, setup_len, query_len, reply_len};
 
 use crate::ParamSet;
@@ -90,14 +90,6 @@ impl ParamSet {
             8 => "streampack-2048",
             _ => "big-2048",
         }
-    }
-
-    /// Whether this program handles the set so far.
-    pub fn built(&self) -> bool
-        requires { IsSet self.now }
-        ensures { IsTrue result ↔ IsBuilt self.now }
-    {
-        !self.pack
     }
 
     /// How many records a database of the set has at most: 2^(nu1 + nu2).

@@ -9,7 +9,13 @@ use Rattle.spiral_tests.specs.Edge.{edge}
 
 -- their shape, where the degree and the set are known by an equation
 pub shape_of : (N : ℕ) (s : ParamSet) (c : Cipher) → N ≡ 256 → s ≡ edge → HasShape 256 3 c → HasShape N (rows s + 1) c
-shape_of N s c degree set shape = subst (λ (n : ℕ). HasShape n (rows s + 1) c) (sym degree) (subst (λ (t : ParamSet). HasShape 256 (rows t + 1) c) (sym set) shape)
+shape_of N s c degree set shape =
+    subst (λ (n : ℕ). HasShape n (rows s + 1) c) (sym degree) (subst (λ (t : ParamSet). HasShape 256 (rows t + 1) c) (sym set) shape)
+
+-- the same of rows 0 to n
+pub matrix_of : (N : ℕ) (s : ParamSet) (c : Cipher) → N ≡ 256 → s ≡ edge → HasShape 256 3 c → HasShape N (s.n + 1) c
+matrix_of N s c degree set shape =
+    subst (λ (n : ℕ). HasShape n (s.n + 1) c) (sym degree) (subst (λ (t : ParamSet). HasShape 256 (t.n + 1) c) (sym set) shape)
 
 pub shapes_of : (s : ParamSet) (cs : List Cipher) → s ≡ edge → All (HasShape 256 3) cs → All (HasShape s.degree (rows s + 1)) cs
 shapes_of s cs set shapes = subst (λ (t : ParamSet). All (HasShape t.degree (rows t + 1)) cs) (sym set) shapes

@@ -2,17 +2,17 @@
 ghost use Rattle.std.specs.Prelude.{◌≡◌, ◌<◌, length, All, IfOk, IfSome, IsTrue};
 ghost use Rattle.spiral_sets.specs.Sets.{IsSet};
 ghost use Rattle.spiral_model.specs.Ciphertexts.{IsCipher};
-ghost use Rattle.regev_code.specs.Products.{HasShape};
 ghost use Rattle.spiral_tests.specs.Edge.{edge};
 
 use crate::fixtures::{
-    Rows, are_ciphers, cipher, columns_of, edge_set, expect_cipher, expect_polynomial, polynomial,
+    Rows, are_ciphers, cipher, columns_of, edge_set, expect_cipher, expect_form, expect_polynomial,
+    polynomial,
 };
 use gsw_code::Gsw;
 use modulus_switch::{ClientState, Reply, open_matrix};
 use regev_code::{
     Cipher, CipherT, Draw, Room, Scratch, add_digit_sum, draw_cipher, draw_secret, forms_of,
-    from_form, is_cipher, phase, seeded_words, to_form,
+    is_cipher, phase, seeded_words, to_form,
 };
 use ring_poly::{Poly, Q, Ring};
 use spiral_sets::ParamSet;
@@ -119,17 +119,6 @@ const ZEROS: Rows = [&[], &[], &[]];
 
 /// 2x times the sample.
 const DOUBLED: Rows = [&[(1, 10)], &[(4, 600)], &[(201, 1800)]];
-
-/// The ciphertext in product form has these rows.
-fn expect_form(rt: &impl Abort, alloc: Global, form: &CipherT, rows: Rows) -> Result<(), Fail>
-    requires { HasShape 256 3 form.now }
-{
-    let ring = Ring::new(alloc, 256)?;
-    let mut out = cipher(rt, alloc, SAMPLE)?;
-    from_form(&ring, form, &mut out);
-    expect_cipher(rt, alloc, &out, rows)?;
-    Ok(())
-}
 
 #[test]
 fn multiplies_in_product_form(rt: HostRuntime) -> Result<(), Fail> {

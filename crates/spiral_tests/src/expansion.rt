@@ -1,34 +1,16 @@
 //! One ciphertext expanded into two. The expected numbers are worked out by hand.
-ghost use Rattle.std.specs.Prelude.{◌≡◌, length, All, IfOk, IsTrue};
+ghost use Rattle.std.specs.Prelude.{◌≡◌, All, IfOk};
 ghost use Rattle.regev_code.specs.Products.{HasShape};
 ghost use Rattle.regev_code.specs.KeyShapes.{IsKeyOf};
 ghost use Rattle.spiral_tests.specs.Edge.{edge};
 
-use crate::fixtures::{edge_set, expect_polynomial};
+use crate::fixtures::{are_polynomials, are_scalar, edge_set, expect_polynomial, is_scalar};
 use query_expand::expand;
 use regev_code::{Cipher, Scratch, SwitchKey};
 use ring_poly::{Poly, Ring, are_residues};
 use std::alloc::Global;
 use std::process::Abort;
 use std::test::Fail;
-
-fn are_polynomials(rows: &[Poly]) -> bool
-    ensures { IsTrue result → All (λ a. length a ≡ 256) rows.now }
-{
-    rows.iter().all(|a| a.degree() == 256)
-}
-
-fn is_scalar(c: &Cipher) -> bool
-    ensures { IsTrue result → HasShape 256 2 c.now }
-{
-    c.rows() == 2 && c.degree() == 256
-}
-
-fn are_scalar(ciphers: &[Cipher]) -> bool
-    ensures { IsTrue result → All (HasShape 256 2) ciphers.now }
-{
-    ciphers.iter().all(|c| is_scalar(c))
-}
 
 /// The ciphertext whose row 0 is zero, and whose row 1 is 1 at each place.
 fn ones(rt: &impl Abort, alloc: Global) -> Result<Cipher, Fail>

@@ -1,4 +1,4 @@
-//! Polynomials, ciphertexts and queries of the set edge-256, and what they are compared with.
+//! Polynomials, ciphertexts and queries of degree 256, and what they are compared with.
 ghost use Rattle.std.specs.Prelude.{◌≡◌, length, All, IfOk, IsTrue};
 ghost use Rattle.spiral_sets.specs.Sets.{IsSet};
 ghost use Rattle.spiral_model.specs.Bodies.{IsQuery};
@@ -7,7 +7,7 @@ ghost use Rattle.regev_code.specs.Products.{HasShape};
 ghost use Rattle.spiral_tests.specs.Edge.{edge};
 
 use gsw_code::encrypt_bit;
-use regev_code::{Cipher, Draw, QueryBody, draw_secret, is_cipher};
+use regev_code::{Cipher, CipherT, Draw, QueryBody, draw_secret, from_form, is_cipher};
 use ring_poly::{Poly, PolyT, Ring, are_residues};
 use spiral_sets::{ParamSet, set_named};
 use std::alloc::Global;
@@ -19,6 +19,9 @@ pub(crate) type Terms = &'static [(usize, u64)];
 
 /// The rows of a ciphertext.
 pub(crate) type Rows = [Terms; 3];
+
+/// The rows of a scalar ciphertext.
+pub(crate) type ScalarRows = [Terms; 2];
 
 /// How many words the secrets take, 2 * 256, and the 24 columns, 4 * 256 each.
 const WORDS: usize = 25088;
@@ -75,7 +78,7 @@ pub(crate) fn expect_polynomial(
     Ok(())
 }
 
-fn are_polynomials(rows: &[Poly]) -> bool
+pub(crate) fn are_polynomials(rows: &[Poly]) -> bool
     ensures { IsTrue result → All (λ a. length a ≡ 256) rows.now }
 {
     rows.iter().all(|a| a.degree() == 256)
@@ -85,6 +88,24 @@ pub(crate) fn has_shape(c: &Cipher) -> bool
     ensures { IsTrue result → HasShape 256 3 c.now }
 {
     c.rows() == 3 && c.degree() == 256
+}
+
+pub(crate) fn have_shape(ciphers: &[Cipher]) -> bool
+    ensures { IsTrue result → All (HasShape 256 3) ciphers.now }
+{
+    ciphers.iter().all(|c| has_shape(c))
+}
+
+pub(crate) fn is_scalar(c: &Cipher) -> bool
+    ensures { IsTrue result → HasShape 256 2 c.now }
+{
+    c.rows() == 2 && c.degree() == 256
+}
+
+pub(crate) fn are_scalar(ciphers: &[Cipher]) -> bool
+    ensures { IsTrue result → All (HasShape 256 2) ciphers.now }
+{
+    ciphers.iter().all(|c| is_scalar(c))
 }
 
 pub(crate) fn are_ciphers(ciphers: &[Cipher]) -> bool
@@ -118,6 +139,83 @@ pub(crate) fn expect_cipher(
     expect_polynomial(rt, alloc, c.row(0), rows[0])?;
     expect_polynomial(rt, alloc, c.row(1), rows[1])?;
     expect_polynomial(rt, alloc, c.row(2), rows[2])?;
+    Ok(())
+}
+
+/// The ciphertexts have these rows.
+pub(crate) fn expect_ciphers(
+    rt: &impl Abort,
+    alloc: Global,
+    ciphers: &[Cipher],
+    want: &[Rows],
+) -> Result<(), Fail> {
+    assert!(rt; want.len() <= ciphers.len());
+    for (c, rows) in ciphers.iter().zip(want) {
+        expect_cipher(rt, alloc, c, *rows)?;
+    }
+    Ok(())
+}
+
+/// The ciphertext in product form has these rows.
+pub(crate) fn expect_form(
+    rt: &impl Abort,
+    alloc: Global,
+    form: &CipherT,
+    rows: Rows,
+) -> Result<(), Fail>
+    requires { HasShape 256 3 form.now }
+{
+    let ring = Ring::new(alloc, 256)?;
+    let mut out = cipher(rt, alloc, [&[], &[], &[]])?;
+    from_form(&ring, form, &mut out);
+    expect_cipher(rt, alloc, &out, rows)?;
+    Ok(())
+}
+
+/// The scalar ciphertext with these rows.
+pub(crate) fn scalar(rt: &impl Abort, alloc: Global, rows: ScalarRows) -> Result<Cipher, Fail>
+    ensures { IfOk result (λ c. HasShape 256 2 c) }
+{
+    let mut polys = Vec::new(alloc);
+    for terms in rows {
+        polys.push(polynomial(rt, alloc, terms)?)?;
+    }
+    assert!(rt; polys.len() == 2 && are_polynomials(&polys));
+    let c = Cipher::from_rows(polys);
+    assert!(rt; is_scalar(&c));
+    Ok(c)
+}
+
+/// The scalar ciphertexts with these rows.
+pub(crate) fn scalars(
+    rt: &impl Abort,
+    alloc: Global,
+    all: &[ScalarRows],
+) -> Result<Vec<Cipher>, Fail>
+    ensures { IfOk result (λ ciphers. All (HasShape 256 2) ciphers.items) }
+{
+    let mut ciphers = Vec::new(alloc);
+    for rows in all {
+        ciphers.push(scalar(rt, alloc, *rows)?)?;
+    }
+    assert!(rt; are_scalar(&ciphers));
+    Ok(ciphers)
+}
+
+/// The scalar ciphertexts at these places have these rows.
+pub(crate) fn expect_scalars(
+    rt: &impl Abort,
+    alloc: Global,
+    ciphers: &[Cipher],
+    want: &[(usize, ScalarRows)],
+) -> Result<(), Fail> {
+    for (place, rows) in want {
+        assert!(rt; *place < ciphers.len());
+        let c = &ciphers[*place];
+        assert!(rt; c.rows() == 2);
+        expect_polynomial(rt, alloc, c.row(0), rows[0])?;
+        expect_polynomial(rt, alloc, c.row(1), rows[1])?;
+    }
     Ok(())
 }
 

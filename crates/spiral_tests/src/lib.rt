@@ -8,10 +8,16 @@ mod expansion;
 #[cfg(test)]
 mod fixtures;
 #[cfg(test)]
+mod keys;
+#[cfg(test)]
 mod outside;
+#[cfg(test)]
+mod packing;
 #[cfg(test)]
 mod polynomials;
 #[cfg(test)]
 mod residues;
 #[cfg(test)]
 mod server;
+#[cfg(test)]
+mod switching;

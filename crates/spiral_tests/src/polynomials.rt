@@ -81,6 +81,17 @@ fn products_are_added(rt: HostRuntime) -> Result<(), Fail> {
 }
 
 #[test]
+fn small_numbers_are_put(rt: HostRuntime) -> Result<(), Fail> {
+    let alloc = rt.alloc();
+    let mut a = polynomial(&rt, alloc, &[(3, Q - 1)])?;
+    a.put_small(vec![in alloc; 249561088u64; 256]?.as_slice());
+    let mut numbers = vec![in alloc; 0u64; 256]?;
+    a.coeffs_into(&mut numbers);
+    assert_eq!(rt; (numbers[0], numbers[255]), (249561088, 249561088));
+    Ok(())
+}
+
+#[test]
 #[tactic(auto, unfolding(spiral_sets::specs::Sets::q))]
 fn automorphisms_by_hand(rt: HostRuntime) -> Result<(), Fail> {
     let alloc = rt.alloc();

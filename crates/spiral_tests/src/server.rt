@@ -1,10 +1,13 @@
-//! A server's work on edge-256, step by step and in one call. The expected numbers are worked out by hand.
-ghost use Rattle.std.specs.Prelude.{◌≡◌, ◌<◌, ◌≤◌, length, All, IfOk, IsTrue};
+//! A server's work on edge-256, step by step and in one call, and the keys of tiny-pack that it brings into product form. The expected
+//! numbers are worked out by hand.
+ghost use Rattle.std.specs.Prelude.{◌≡◌, ◌<◌, ◌≤◌, length, All, IfOk};
 ghost use Rattle.regev_code.specs.Products.{HasShape};
 ghost use Rattle.gsw_code.specs.Products.{IsReady};
 ghost use Rattle.spiral_tests.specs.Edge.{edge};
+ghost use Rattle.spiral_tests.specs.Pack.{tiny_pack};
 
-use crate::fixtures::{Rows, edge_set, expect_cipher, has_shape, query_of};
+use crate::fixtures::{Rows, edge_set, expect_ciphers, have_shape, query_of};
+use crate::keys::{expect_keys, pack_set, setup};
 use first_dim::{Prepared, products};
 use fold_dims::fold;
 use gsw_code::Ready;
@@ -38,12 +41,6 @@ fn database(rt: &impl Abort, alloc: Global) -> Result<Database, Fail>
     Ok(prepare(&set, 769, bytes)?)
 }
 
-fn have_shape(ciphers: &[Cipher]) -> bool
-    ensures { IsTrue result → All (HasShape 256 3) ciphers.now }
-{
-    ciphers.iter().all(|c| has_shape(c))
-}
-
 /// Room for the first dimension: 2 ciphertexts for each of 2 folded places.
 fn room(rt: &impl Abort, alloc: Global) -> Result<Vec<Cipher>, Fail>
     ensures count { IfOk result (λ ciphers. length ciphers.items ≡ 4) }
@@ -56,20 +53,6 @@ fn room(rt: &impl Abort, alloc: Global) -> Result<Vec<Cipher>, Fail>
     }
     assert!(rt; ciphers.len() == 4 && have_shape(&ciphers));
     Ok(ciphers)
-}
-
-/// The ciphertexts have these rows.
-fn expect_ciphers(
-    rt: &impl Abort,
-    alloc: Global,
-    ciphers: &[Cipher],
-    want: &[Rows],
-) -> Result<(), Fail> {
-    assert!(rt; want.len() <= ciphers.len());
-    for (c, rows) in ciphers.iter().zip(want) {
-        expect_cipher(rt, alloc, c, *rows)?;
-    }
-    Ok(())
 }
 
 /// Two ciphertexts for each of two places.
@@ -249,5 +232,23 @@ fn answers_in_one_call(rt: HostRuntime) -> Result<(), Fail> {
     assert!(rt; server.set().is(&edge_set(&rt)));
     let reply = server.answer(&rt, None, &query, &OpenGate)?;
     expect_record(&rt, &reply);
+    Ok(())
+}
+
+/// A server of one record of tiny-pack.
+fn pack_server<R: Threads + Sync + Abort>(rt: &R, alloc: Global) -> Result<Server, Fail>
+    ensures { IfOk result (λ server. server.table.set ≡ tiny_pack) }
+{
+    let bytes = vec![in alloc; 3u8; 4]?;
+    let db = prepare(&pack_set(rt), 4, bytes)?;
+    Ok(Server::new(rt, alloc, db, 1)?)
+}
+
+#[test]
+fn keys_are_brought_into_a_servers_form(rt: HostRuntime) -> Result<(), Fail> {
+    let alloc = rt.alloc();
+    let server = pack_server(&rt, alloc)?;
+    let keys = server.keys(&setup(&rt, alloc)?)?;
+    expect_keys(&rt, alloc, &keys)?;
     Ok(())
 }

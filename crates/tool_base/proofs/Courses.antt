@@ -1,5 +1,5 @@
 -- A command step by step and its ends, from what the calls that make them promise.
-use Rattle.std.proofs.Common.{ℕ, List, [], ◌∷◌, ◌≡◌, ◌<◌, ◌⊎◌, length, Ok, Err, inl, inr, refl, subst}
+use Rattle.std.proofs.Common.{ℕ, List, ◌∷◌, ◌≡◌, ◌<◌, ◌⊎◌, length, Ok, Err, inl, inr, refl, subst}
 use Rattle.pir_io.specs.declared.fault.IoFault.TheVariants.{Failed, NoMemory as out_of_memory}
 use Rattle.pir_io.specs.Files.{FilesSeen}
 use Rattle.pir_io.specs.Reading.{OnlyRead}
@@ -8,7 +8,7 @@ use Rattle.tool_base.specs.declared.status.Status.{Status}
 use Rattle.tool_base.specs.declared.status.Status.TheVariants.{NoMemory, FileFault}
 use Rattle.tool_base.specs.Texts.{file_fault_line}
 use Rattle.tool_base.specs.Puts.{Finishes, Refused}
-use Rattle.tool_base.specs.Outputs.{Output, WritesOutputs, one}
+use Rattle.tool_base.specs.Outputs.{Output, WritesOutputs}
 use Rattle.tool_base.specs.Steps.{Scene, scene, write}
 use Rattle.tool_base.proofs.WritingAll.{failed_is_stopped, all_is_stopped}
 

@@ -1,11 +1,12 @@
--- The set of a name is one of the ten.
-use Rattle.std.proofs.Common.{ℕ, List, [], ◌∷◌, ◌≡◌, Some, nat_eq, true, false, refl, subst, lit<}
-use Rattle.std.specs.Prelude.{if◌then◌else◌}
+-- The set of a name is one of the ten; where there is none, no set has the name.
+use Rattle.std.proofs.Common.{ℕ, List, [], ◌∷◌, ◌≡◌, ◌∙◌, Option, Some, None, nat_eq, true, false, refl, sym, subst, lit<}
+use Rattle.std.specs.Prelude.{if◌then◌else◌, IfSome, IfNone}
 use Rattle.std.specs.List.{AllByRecursion}
 use lib.Pointwise.{pointwise}
 use Rattle.spiral_sets.specs.declared.param_set.ParamSet.{ParamSet}
 use Rattle.spiral_sets.specs.declared.sets.TheConstants.{SETS}
 use Rattle.spiral_model.specs.Sets.{IsSet, names, named_among, set_of}
+use Rattle.tool_base.specs.Names.{Names, NamesNone}
 
 -- what holds of each row holds of the one that a name is found at
 found_row : (P : ParamSet → Type 0) (name : List ℕ) (others : List (List ℕ)) (sets : List ParamSet) (set : ParamSet)
@@ -34,5 +35,17 @@ rows_known = (
   ),
 )
 
-pub named_known : (name : List ℕ) (set : ParamSet) → set_of name ≡ Some set → IsSet set
-named_known name set e = found_row IsSet name names SETS set rows_known e
+-- What was found by a name is one of the ten,
+pub named_known : (name : List ℕ) (found : Option ParamSet) → found ≡ set_of name → IfSome found IsSet
+named_known name (Some set) e = found_row IsSet name names SETS set rows_known (sym e)
+named_known name None e = tt
+
+-- and has that name;
+pub named_found : (name : List ℕ) (found : Option ParamSet) → found ≡ set_of name → IfSome found (Names name)
+named_found name (Some set) e = record { named = sym e }
+named_found name None e = tt
+
+-- where nothing was found, no set has it.
+pub named_none : (name : List ℕ) (found : Option ParamSet) → found ≡ set_of name → IfNone found (NamesNone name)
+named_none name (Some set) e = tt
+named_none name None e = λ set is. (let differ : None ≡ Some set = e ∙ is.named in absurd (cc))

@@ -1,7 +1,7 @@
 -- The steps of which a command's definition is made, in the order in which it takes them. A command is a relation between what is seen
 -- of the files and of the sink, before and after, and the status that it ends with. What is said of contents holds of an object that
 -- tells them.
-use Rattle.std.specs.Prelude.{ℕ, List, IsTrue, ◌≡◌, ◌⊎◌, Some}
+use Rattle.std.specs.Prelude.{ℕ, List, IsTrue, ◌≡◌, ◌⊎◌}
 use Rattle.pir_io.specs.Faults.{Rose}
 use Rattle.pir_io.specs.Files.{FilesSeen, content_of}
 use Rattle.pir_io.specs.Reading.{OnlyRead, FailedReading}
@@ -87,7 +87,7 @@ work_out rest s status = without_line NoMemory s status ⊎ rest s status
 abbrev pub either : Type 0 → Steps → Steps → Steps
 either Holds rest otherwise s status = (Holds × rest s status) ⊎ ((Holds → ⊥) × otherwise s status)
 
--- goes on with the set of this name, one that the program handles
+-- goes on with the set of this name, and is refused where no set has it
 abbrev pub with_set : List ℕ → (ParamSet → Steps) → Steps
 with_set name rest s status = (NamesNone name × refuse UnknownSet unknown_set_line s status) ⊎ ((set : ParamSet) × Names name set × rest set s status)
 

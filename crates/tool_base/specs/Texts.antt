@@ -25,7 +25,7 @@ wrong_set_line expected found = codes "wrong set: expected " ++ (expected ++ (co
 abbrev pub absent_line : ℕ → ℕ → List ℕ
 absent_line index count = codes "absent: index " ++ (decimal index ++ (codes ", count " ++ (decimal count ++ 10 ∷ [])))
 
--- the name is that of no set that this program handles
+-- no set has the name
 abbrev pub unknown_set_line : List ℕ
 unknown_set_line = line (codes "unknown set")
 

@@ -12,7 +12,7 @@ mod words;
 
 pub use lines::{FILE_FAULT, finish, refuse, refuse_by_text, write_and_finish};
 pub use output::{Output, write_outputs};
-pub use set_names::built_set;
+pub use set_names::find_set;
 pub use source::Source;
 pub use status::Status;
 pub use texts::{

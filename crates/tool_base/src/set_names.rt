@@ -4,14 +4,11 @@ ghost use Rattle.tool_base.specs.Names.{Names, NamesNone};
 
 use spiral_sets::{ParamSet, set_named};
 
-/// The set of that name that this program handles; `None` exactly where there is none.
-pub fn built_set(name: &str) -> Option<ParamSet>
+/// The set of that name; `None` exactly where no set has it.
+pub fn find_set(name: &str) -> Option<ParamSet>
     ensures known { IfSome result IsSet }
     ensures found { IfSome result (Names name.now) }
     ensures none { IfNone result (NamesNone name.now) }
 {
-    match set_named(name) {
-        Some(set) if set.built() => Some(set),
-        _ => None,
-    }
+    set_named(name)
 }

@@ -10,7 +10,7 @@ pub enum Status {
     NoMemory,
     /// The words fit no command's form.
     Usage,
-    /// The name is that of no set that this program handles.
+    /// No set has the name.
     UnknownSet,
     /// The index isn't below the count of records that the set has at most.
     IndexRange,

@@ -2,7 +2,6 @@
 use Rattle.std.proofs.Common.{ℕ, List, IsTrue, ◌≡◌, ◌∙◌, Option, Result, Ok, Err, IfOk, inl, inr, refl, ap, subst}
 use Rattle.pir_io.specs.Files.{FilesSeen, content_of}
 use Rattle.pir_io.specs.Sink.{SinkSeen}
-use Rattle.frame_headers.specs.declared.frame_error.FrameError.{FrameError}
 use Rattle.record_store.specs.declared.storing.DbError.{DbError}
 use Rattle.record_store.specs.declared.storing.DbError.TheVariants as db
 use Rattle.record_store.specs.Storing.{ReadsDatabase}
@@ -10,7 +9,6 @@ use Rattle.spiral_model.specs.Bodies.{CipherBody}
 use Rattle.spiral_model.specs.Databases.{RecordTable}
 use Rattle.spiral_model.specs.Keys.{SetKeys}
 use Rattle.spiral_model.specs.Replies.{SwitchedReply}
-use Rattle.spiral_model.specs.Answering.{reply_of, answer_of}
 use Rattle.spiral_frames.specs.Frames.{Spell, frame_of, reply_message}
 use Rattle.spiral_frames.specs.FrameChecks.{database_refusal}
 use Rattle.pir_io.proofs.Kept.{same_content}
@@ -31,11 +29,6 @@ no_database old new so sn name (db.Frame error) status reads refused = inr (inr 
         ap database_refusal (same_content old new (reads.only.keeps before) name) ∙ reads.cause before
 no_database old new so sn name db.File status reads refused = inl (reads.cause, (refl, refused))
 no_database old new so sn name db.NoMemory status reads refused = inr (inl (refl, refused.0, refused.1))
-
--- the answer is of the database's set
-pub answer_set : (table : RecordTable) (keys : Option SetKeys) (query : CipherBody) → (reply_for table keys query).set ≡ table.set
-unfolding answer_of reply_of
-answer_set table keys query = refl
 
 -- the frame that spells a reply is that of the answer which the reply is
 pub reply_spelled : {T E : Type 0} (items : T → List ℕ) (result : Result T E) (reply : SwitchedReply) (table : RecordTable) (keys : Option SetKeys) (query : CipherBody)

@@ -1,7 +1,6 @@
 -- The command that makes a query: what it was given, and what it writes.
 use Rattle.std.proofs.Common.{ℕ, List, [], ◌∷◌, ◌≡◌, ◌∙◌, length, ap}
 use Rattle.spiral_sets.specs.declared.param_set.ParamSet.{ParamSet}
-use Rattle.spiral_model.specs.Replies.{QueryState}
 use Rattle.spiral_model.specs.Dealing.{state_of}
 use Rattle.spiral_frames.specs.Frames.{frame_of, state_message}
 use Rattle.pir_client.specs.declared.asking.Asked.{Asked}
@@ -24,11 +23,6 @@ triple a b c p q r = record { name = a; bytes = p } ∷ record { name = b; bytes
 -- that have the same bytes
 pub three_same : (a b c p q r x y z : List ℕ) → p ≡ x → q ≡ y → r ≡ z → triple a b c p q r ≡ triple a b c x y z
 three_same a b c p q r x y z first second third = ap (λ l. triple a b c l q r) first ∙ ap (λ l. triple a b c x l r) second ∙ ap (λ l. triple a b c x y l) third
-
--- what was made is of the set
-pub set_of_asked : (set : ParamSet) (index : ℕ) (words : List ℕ) (asked : Asked) → IsAsked set index words asked → asked.state.set ≡ set
-unfolding state_of
-set_of_asked set index words asked is = ap (λ (s : QueryState). s.set) is.state
 
 module _ (a : AskWords) (set : ParamSet) (words : List ℕ) (asked : Asked) (is : IsAsked set a.index words asked) where
   pub outputs_are : outputs_from a asked ≡ asked_outputs a set words

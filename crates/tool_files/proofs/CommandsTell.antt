@@ -1,26 +1,24 @@
 -- Whether the files and the sink tell what they hold stays, whatever a command does.
-use Rattle.std.proofs.Common.{ℕ, List, ◌+◌, ◌*◌, ◌++◌, length, option_map, inl, inr}
+use Rattle.std.proofs.Common.{ℕ, List, ◌+◌, ◌*◌, option_map, inl, inr}
 use Rattle.spiral_sets.specs.declared.param_set.ParamSet.{ParamSet}
 use Rattle.spiral_model.specs.Sets.{max_records}
 use Rattle.spiral_model.specs.Counts.{words_needed}
-use Rattle.spiral_model.specs.Noise.{dealt_report, Fits}
 use Rattle.spiral_model.specs.Keys.{keys_in}
 use Rattle.spiral_model.specs.Replies.{open_bytes}
 use Rattle.spiral_frames.specs.Frames.{frame_of, database_message}
 use Rattle.tool_base.specs.declared.status.Status.{Status}
 use Rattle.tool_base.specs.declared.status.Status.TheVariants.{BadFrame}
 use Rattle.tool_base.specs.Outputs.{one}
-use Rattle.tool_base.specs.Texts.{query_line, fits_line, misses_line}
 use Rattle.tool_base.specs.Sources.{WordSource}
 use Rattle.tool_base.specs.Words.{PrepareWords, AskWords, NoiseWords, AnswerWords, OpenWords}
-use Rattle.tool_base.specs.Steps.{Scene, Steps, at_files, without_line, refuse_frame, never, work_out, either, puts, write}
+use Rattle.tool_base.specs.Steps.{Scene, Steps, at_files, without_line, refuse_frame, never}
 use Rattle.tool_base.proofs.Telling.{TellsStill, refuse_told, without_told, puts_told, write_told, unread_told, refused_frame_told, after_reading}
 use Rattle.tool_files.specs.Inputs.{SpellsDatabase, SpellsKeys, SpellsQuery, SpellsState, SpellsReply}
 use Rattle.tool_files.specs.RandomWords.{GivesWords}
 use Rattle.tool_files.specs.Prepare.{prepares, IsFront, table_of}
 use Rattle.tool_files.specs.WithWords.{with_words}
-use Rattle.tool_files.specs.Ask.{asks, quiet, query_frame, asked_outputs}
-use Rattle.tool_files.specs.Noise.{noises, report_lines}
+use Rattle.tool_files.specs.Ask.{asks, asked_outputs}
+use Rattle.tool_files.specs.Noise.{noises}
 use Rattle.tool_files.specs.Answer.{answers, IsRefused, reply_frame}
 use Rattle.tool_files.specs.Open.{opens}
 use Rattle.tool_files.proofs.Asking.{ask_rest}

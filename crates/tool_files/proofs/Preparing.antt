@@ -1,5 +1,5 @@
 -- The command that makes a database: how its input is refused, and how the database is written.
-use Rattle.std.proofs.Common.{ℕ, List, length, ◌+◌, ◌*◌, ◌%◌, ◌≡◌, ◌<◌, ◌≤◌, ◌⊎◌, Ok, Err, inl, inr, ap, ◌∙◌, refl, arith}
+use Rattle.std.proofs.Common.{ℕ, List, length, ◌*◌, ◌%◌, ◌≡◌, ◌<◌, ◌≤◌, ◌⊎◌, Ok, Err, inl, inr, ap, ◌∙◌, refl, arith}
 use Rattle.std.proofs.Math.Nat.{mul-le-mul_right, mul-mod_left}
 use Rattle.pir_io.specs.declared.fault.IoFault.TheVariants.{Failed}
 use Rattle.pir_io.specs.Files.{FilesSeen}
@@ -22,7 +22,7 @@ use Rattle.tool_base.specs.Outputs.{WritesOutputs, one}
 use Rattle.tool_base.specs.Steps.{scene}
 use Rattle.tool_base.proofs.Courses.{refused_as}
 use Rattle.tool_files.specs.Reasons.{reason_line}
-use Rattle.tool_files.specs.Prepare.{prepares_from, table_of}
+use Rattle.tool_files.specs.Prepare.{prepares_from}
 
 -- ---- how a database is written
 

@@ -1,12 +1,12 @@
 -- SETUP, as it is read for a database's set, and the keys in it.
-use Rattle.std.proofs.Common.{ℕ, List, ◌≡◌, ◌∙◌, ◌||◌, not, Bool, true, false, Option, Some, None, option_map, Result, Ok, Err, IsErrAnd, refl, sym, ap, subst}
+use Rattle.std.proofs.Common.{ℕ, List, ◌≡◌, ◌∙◌, true, false, Option, Some, None, option_map, Result, Ok, Err, IsErrAnd, refl, sym, ap, subst}
 use Rattle.std.proofs.lemmas.Result.{err_from_is_err_and}
 use Rattle.pir_io.specs.Files.{FilesSeen, content_of}
 use Rattle.spiral_sets.specs.declared.param_set.ParamSet.{ParamSet}
 use Rattle.spiral_model.specs.Sets.{IsSet, has_keys}
 use Rattle.spiral_model.specs.Bodies.{CipherBody}
 use Rattle.spiral_model.specs.Keys.{SetKeys, keys_in}
-use Rattle.query_expand.specs.AskedKeys.{AreKeysFor}
+use Rattle.regev_code.specs.KeyShapes.{AreKeysFor}
 use Rattle.tool_files.specs.declared.input.InputError.{InputError}
 use Rattle.tool_files.specs.declared.input.InputError.TheVariants.{File, Frame, NoMemory}
 use Rattle.tool_files.specs.Inputs.{SpellsNothing, SpellsSetup, SpellsKeys}
@@ -104,15 +104,11 @@ pub known_set : (s : ParamSet) (setup : Option CipherBody) → IsSet s → IsRea
 known_set s (Some keys) known is = is.1.known
 known_set s None known is = known
 
-direct-of : (direct pack : Bool) → (not direct || pack) ≡ false → direct ≡ true
-direct-of true pack none = refl
-direct-of false pack none = absurd (cc)
-
 -- A query is made ready with the keys that are given.
 pub keys_for : (s : ParamSet) (setup : Option CipherBody) → IsGiven s setup → AreKeysFor s (option_map keys_in setup)
 unfolding keys_in
 keys_for s (Some keys) is = λ _. is.0
-keys_for s None is = direct-of s.direct s.pack is
+keys_for s None is = is
 
 -- So it is with the keys that the setup carries, brought into product form.
 pub keys_given : (s : ParamSet) (setup : Option CipherBody) (body : CipherBody) (keys : SetKeys) → IsGiven s setup → setup ≡ Some body → keys ≡ keys_in body

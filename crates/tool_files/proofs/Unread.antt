@@ -1,5 +1,5 @@
 -- How a command goes on where an input gave nothing to go on with.
-use Rattle.std.proofs.Common.{ℕ, List, ◌≡◌, Err, inl, inr, refl}
+use Rattle.std.proofs.Common.{ℕ, List, Err, inl, inr, refl}
 use Rattle.pir_io.specs.Files.{FilesSeen}
 use Rattle.pir_io.specs.Sink.{SinkSeen}
 use Rattle.tool_base.specs.declared.status.Status.{Status}

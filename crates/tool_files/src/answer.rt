@@ -1,6 +1,6 @@
 ghost use Rattle.std.specs.Prelude.{◌≡◌, ◌≤◌, length, option_map, IfOk};
 ghost use Rattle.std.specs.Option.{option_copied};
-ghost use Rattle.spiral_model.specs.Sets.{IsSet, IsBuilt, name_of};
+ghost use Rattle.spiral_model.specs.Sets.{IsSet, name_of};
 ghost use Rattle.spiral_model.specs.Bodies.{IsSetup, IsQuery};
 ghost use Rattle.spiral_model.specs.Keys.{keys_in};
 ghost use Rattle.tool_base.specs.Outputs.{one};
@@ -148,7 +148,6 @@ fn reply_frame<R: Threads + Sync, G: Gate>(
     query: &QueryBody,
     gate: &G,
 ) -> Result<Vec<u8>, NoMemory>
-    requires built { IsBuilt db.set }
     requires setup { IsGiven db.set (option_copied setup) }
     requires set { query.now.set ≡ db.set }
     requires query { IsQuery query.now }

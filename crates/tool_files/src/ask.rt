@@ -1,5 +1,4 @@
 ghost use Rattle.std.specs.Prelude.{◌≡◌, length, IfOk};
-ghost use Rattle.spiral_model.specs.Sets.{IsBuilt};
 ghost use Rattle.spiral_frames.specs.Frames.{frame_of, state_message};
 ghost use Rattle.tool_base.specs.Steps.{scene, write};
 ghost use Rattle.tool_base.specs.Texts.{query_line};
@@ -42,9 +41,8 @@ pub fn ask_files<F: Files, O: Sink>(
     }
 }
 
-// The State frame of a state of a set that this program handles.
+// The State frame of a state.
 fn state_frame(alloc: Global, state: &ClientState) -> Result<Vec<u8>, NoMemory>
-    requires { IsBuilt state.now.set }
     ensures { IfOk result (λ bytes. bytes.items ≡ frame_of (state_message state.now)) }
 {
     // A look at a field tells what every state keeps.
@@ -60,7 +58,6 @@ fn write_asked<'a, F: Files, O: Sink>(
     ask: &'a Ask<'a>,
     asked: &'a Asked,
 ) -> Status
-    requires { IsBuilt asked.now.state.set }
     ensures { write (outputs_from (ask_seen ask.now) asked.now) (query_line ask.now.set.now (length asked.now.setup.items) (length asked.now.query.items)) (scene (F.seen files.old) (F.seen files.new) (O.seen sink.old) (O.seen sink.new)) result }
 {
     let Ok(state) = state_frame(alloc, &asked.state) else {

@@ -1,5 +1,5 @@
 ghost use Rattle.std.specs.Prelude.{IfOk};
-ghost use Rattle.spiral_frames.specs.Frames.{IsOne, CanBeSent};
+ghost use Rattle.spiral_frames.specs.Frames.{IsMessage, IsOne};
 ghost use Rattle.tool_files.specs.Reading.{ReadsMessage};
 
 use crate::input::InputError;
@@ -15,7 +15,7 @@ pub fn read_message<F: Files, M: FramedMessage>(
     name: &str,
 ) -> Result<M, InputError>
     ensures reads { ReadsMessage (λ bytes m. IsOne M.KIND bytes (M.message m)) (F.seen files.old) (F.seen files.new) name.now result }
-    ensures fits { IfOk result (λ m. CanBeSent (M.message m)) }
+    ensures fits { IfOk result (λ m. IsMessage (M.message m)) }
 {
     let bytes = match read_front(alloc, files, name, reading_limit(M::KIND)) {
         Ok(bytes) => bytes,

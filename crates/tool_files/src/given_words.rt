@@ -8,7 +8,7 @@ use pir_io::{Files, IoFault, Sink};
 use spiral_sets::ParamSet;
 use std::alloc::Global;
 use tool_base::{
-    FILE_FAULT, Source, Status, built_set, index_range_text, refuse, refuse_by_text,
+    FILE_FAULT, Source, Status, find_set, index_range_text, refuse, refuse_by_text,
     words_short_text,
 };
 
@@ -31,7 +31,7 @@ pub(crate) fn given_words<F: Files, O: Sink>(
 ) -> Result<GivenWords, Status>
     ensures { MatchResult result (λ given. HasWords set_name.now index (source_seen source.entry) (F.seen files.old) (F.seen files.new) given.set given.words.items × (O.seen sink.new ≡ O.seen sink.old)) (λ status. with_words set_name.now index (source_seen source.entry) (λ _ _. never) (scene (F.seen files.old) (F.seen files.new) (O.seen sink.old) (O.seen sink.new)) status) }
 {
-    let Some(set) = built_set(set_name) else {
+    let Some(set) = find_set(set_name) else {
         return Err(refuse(sink, b"unknown set\n", Status::UnknownSet));
     };
     let bound = set.max_records();

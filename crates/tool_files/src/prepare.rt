@@ -1,5 +1,5 @@
 ghost use Rattle.std.specs.Prelude.{◌≡◌, ◌≤◌, ◌+◌, ◌*◌, IfOk, string_bytes};
-ghost use Rattle.spiral_model.specs.Sets.{IsSet, IsBuilt, max_records, capacity};
+ghost use Rattle.spiral_model.specs.Sets.{IsSet, max_records, capacity};
 ghost use Rattle.spiral_model.specs.Databases.{record_count};
 ghost use Rattle.spiral_frames.specs.Frames.{frame_of, database_message};
 ghost use Rattle.tool_base.specs.Outputs.{one};
@@ -15,7 +15,7 @@ use record_store::{Database, DbError, PrepareError, check_length, write_db};
 use spiral_sets::ParamSet;
 use std::alloc::{AllocError, Global};
 use tool_base::{
-    FILE_FAULT, Prepare, Status, bad_records_text, built_set, database_text, finish, refuse,
+    FILE_FAULT, Prepare, Status, bad_records_text, database_text, find_set, finish, refuse,
     refuse_by_text,
 };
 
@@ -28,7 +28,7 @@ pub fn prepare_files<F: Files, O: Sink>(
 ) -> Status
     ensures { prepares (prepare_seen prepare.now) (scene (F.seen files.old) (F.seen files.new) (O.seen sink.old) (O.seen sink.new)) result }
 {
-    let Some(set) = built_set(prepare.set) else {
+    let Some(set) = find_set(prepare.set) else {
         return refuse(sink, b"unknown set\n", Status::UnknownSet);
     };
     if let Err(error) = check_length(&set, prepare.length) {
@@ -84,7 +84,6 @@ fn write_prepared<F: Files, O: Sink>(
     prepare: &Prepare<'_>,
     db: &Database,
 ) -> Status
-    requires { IsBuilt db.now.set }
     ensures { write (one prepare.now.db.now (frame_of (database_message db.now))) (database_line prepare.now.set.now (record_count db.now) db.now.record_length) (scene (F.seen files.old) (F.seen files.new) (O.seen sink.old) (O.seen sink.new)) result }
 {
     let Ok(text) = database_text(alloc, prepare.set, db.count(), db.length) else {

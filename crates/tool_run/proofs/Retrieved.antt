@@ -7,7 +7,7 @@ use Rattle.spiral_model.specs.Replies.{QueryState, SwitchedReply, open_bytes}
 use Rattle.spiral_model.specs.Dealing.{state_of, query_body_of}
 use Rattle.spiral_frames.proofs.SameMessages.{same_state, same_reply}
 use Rattle.noise_laws.specs.LookUps.{LookUp, reply_to}
-use Rattle.noise_laws.proofs.LookUps.{of_one_set, asked_below, reply_length, look_up_opens, state_kept, reply_kept, state_built, reply_built}
+use Rattle.noise_laws.proofs.LookUps.{of_one_set, asked_below, reply_length, look_up_opens, state_kept, reply_kept}
 use Rattle.tool_base.specs.declared.status.Status.{Status}
 use Rattle.tool_base.specs.declared.status.Status.TheVariants.{BadFrame}
 use Rattle.tool_base.specs.Statuses.{number_of_status}
@@ -67,17 +67,14 @@ module _ (o : OpenWords) (table : RecordTable) (words : List ℕ) (index : ℕ) 
     state_held : SpellsState (content_of files o.state_name) kept_state
     state_held = record {
       kind_is = refl;
-      spells = record { fits = (state_built table words index hold.built, state_kept table words index hold.look_up); spelled = hold.state };
+      spells = record { is = state_kept table words index hold.look_up; spelled = hold.state };
     }
 
     reply_held : SpellsReply (content_of files o.reply_name) reply
     unfolding query_body_of
     reply_held = record {
       kind_is = refl;
-      spells = record {
-        fits = (reply_built table words index hold.built, reply_kept table words index hold.look_up);
-        spelled = hold.reply;
-      };
+      spells = record { is = reply_kept table words index hold.look_up; spelled = hold.reply };
     }
 
   -- of state and reply of the look-up the record is written

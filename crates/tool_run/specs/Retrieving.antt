@@ -1,7 +1,6 @@
 -- What the program does with `open` on the files of a look-up: they are never refused, and OUT gets the record that was asked for.
 use Rattle.std.specs.Prelude.{ℕ, List, IsTrue, ◌≡◌, length}
 use Rattle.pir_io.specs.Files.{FilesSeen, content_of}
-use Rattle.spiral_sets.specs.Sets.{IsBuilt}
 use Rattle.spiral_model.specs.Databases.{RecordTable, record_at}
 use Rattle.spiral_model.specs.Dealing.{state_of, query_body_of, dealt_keys}
 use Rattle.spiral_frames.specs.Frames.{frame_of, state_message}
@@ -24,10 +23,9 @@ abbrev pub retrieves : OpenWords → List ℕ → Steps
 retrieves o bytes =
     read o.state_name Anything never (λ _. read o.reply_name Anything never (λ _. write (one o.out_name bytes) (record_line (length bytes))))
 
--- The files hold what a look-up made, in a set that the program handles: STATE as `ask` writes it, REPLY as `answer` does.
+-- The files hold what a look-up made: STATE as `ask` writes it, REPLY as `answer` does.
 pub record HoldLookUp (o : OpenWords) (table : RecordTable) (words : List ℕ) (index : ℕ) (files : FilesSeen) : Type 0 where
   pub look_up : LookUp table words index
-  pub built : IsBuilt table.set
   pub tell : IsTrue files.tells
   pub state : content_of files o.state_name ≡ frame_of (state_message (state_of table.set words index))
   pub reply : content_of files o.reply_name ≡ reply_frame table (dealt_keys table.set words) (query_body_of table.set words index)

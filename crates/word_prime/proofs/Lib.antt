@@ -3,4 +3,4 @@ mod Remainders
 pub mod Halves
 pub mod Joined
 mod Powers
-mod Places
+pub mod Places

@@ -84,3 +84,28 @@ pub fn reduce_lanes<const P: u32>(sums: &[u64], out: &mut [u32])
         out[i] = (sums[i] % u64::from(P)) as u32;
     }
 }
+
+/// Adds the sums to the residues modulo P, place by place.
+pub fn add_reduced_lanes<const P: u32>(out: &mut [u32], sums: &[u64])
+    requires modulus { IsModulus P }
+    requires same_length { length sums.now ≡ length out.old }
+    requires residues { All (λ x. x < P) out.old }
+    ensures value { out.new ≡ ring_add P (length out.old) out.old (map (λ s. s % P) sums.now) }
+    ensures residues { All (λ x. x < P) out.new }
+{
+    for i in 0..out.len() {
+        out[i] = sum_of::<P>(out[i], (sums[i] % u64::from(P)) as u32);
+    }
+}
+
+/// Writes numbers that are residues modulo P already, without a division.
+pub fn narrow_lanes<const P: u32>(numbers: &[u64], out: &mut [u32])
+    requires same_length { length out.old ≡ length numbers.now }
+    requires below { All (λ x. x < P) numbers.now }
+    ensures value { out.new ≡ map (λ s. s % P) numbers.now }
+    ensures residues { All (λ x. x < P) out.new }
+{
+    for i in 0..out.len() {
+        out[i] = numbers[i] as u32;
+    }
+}

@@ -8,7 +8,10 @@ mod pairs;
 mod residues;
 
 pub use arithmetic::{difference_of, product_of, sum_of};
-pub use lanes::{add_lanes, mac_lanes, mul_add_lanes, mul_lanes, reduce_lanes, sub_lanes};
+pub use lanes::{
+    add_lanes, add_reduced_lanes, mac_lanes, mul_add_lanes, mul_lanes, narrow_lanes, reduce_lanes,
+    sub_lanes,
+};
 pub use pairs::{P1, P2, join_pair, split_pair};
 pub use residues::Residue;
 pub use spiral_sets::Q;

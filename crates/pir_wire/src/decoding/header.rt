@@ -1,6 +1,6 @@
 ghost use Rattle.std.specs.Prelude.{◌≡◌, ◌^◌, ◌<◌, ◌≤◌, IfOk, IfSome, IfNone};
 ghost use Rattle.spiral_sets.specs.declared.param_set.ParamSet.{ParamSet as ASet};
-ghost use Rattle.spiral_sets.specs.Sets.{IsSet, IsBuilt};
+ghost use Rattle.spiral_sets.specs.Sets.{IsSet};
 ghost use Rattle.pir_wire.specs.Headers.{header_of, frame_len_of, BeginsWith, HasOtherFront};
 
 use frame_headers::{FrameKind, push_header};
@@ -21,8 +21,7 @@ fn header_bytes(alloc: Global, kind: FrameKind, set: &ParamSet) -> Result<Vec<u8
     Ok(bytes)
 }
 
-/// Where the body starts in bytes that begin with the header of that set, where this program handles it; `None`
-/// exactly where they don't.
+/// Where the body starts in bytes that begin with the header of that set; `None` exactly where they don't.
 fn body_start(
     alloc: Global,
     kind: FrameKind,
@@ -33,9 +32,6 @@ fn body_start(
     ensures found { IfOk result (λ found. IfSome found (λ start. BeginsWith kind bytes.now set.now start)) }
     ensures none { IfOk result (λ found. IfNone found (HasOtherFront kind bytes.now set.now)) }
 {
-    if !set.built() {
-        return Ok(None);
-    }
     let header = header_bytes(alloc, kind, set)?;
     if !bytes.starts_with(&header) {
         return Ok(None);
@@ -44,7 +40,7 @@ fn body_start(
 }
 
 /// The set whose header the bytes begin with, and where the body starts; `None` exactly where they begin with
-/// the header of none of the sets that this program handles.
+/// the header of no set.
 pub(super) fn read_header(
     alloc: Global,
     kind: FrameKind,
@@ -62,21 +58,18 @@ pub(super) fn read_header(
     Ok(None)
 }
 
-/// How many bytes a frame of that kind and set has; 0 where this program doesn't handle the set.
+/// How many bytes a frame of that kind and set has; a Database has at least so many.
 fn frame_len(kind: FrameKind, set: &ParamSet) -> usize
     requires { IsSet set.now }
-    ensures value { IsBuilt set.now → result ≡ frame_len_of kind set.now }
+    ensures value { result ≡ frame_len_of kind set.now }
     ensures most { result < 2 ^ 25 }
 {
-    if !set.built() {
-        return 0;
-    }
     15 + set.name().len() + kind.body_len(set) as usize
 }
 
-/// One byte more than the longest frame of that kind has, among the sets that this program handles.
+/// One byte more than the longest frame of that kind has, among those of all sets.
 pub fn reading_limit(kind: FrameKind) -> usize
-    ensures { (set : ASet) → IsSet set → IsBuilt set → frame_len_of kind set < result }
+    ensures { (set : ASet) → IsSet set → frame_len_of kind set < result }
 {
     let mut longest: usize = 0;
     for i in 0..SETS_COUNT {

@@ -7,8 +7,10 @@ use Rattle.pir_client.proofs.messages.first_messages.Goals as goal
 
 pub loop-i-preserved : goal.loop-i-preserved
 loop-i-preserved c =
-    pushed_more (row_message c.args.set.now c.args.r (if c.args.u == first_place c.args.set.now c.args.index then pos (delta c.args.set.now) else pos 0)) 1 c.loop-i.i (c.loop-i.i + 1)
-    c.loop-i.messages.items c.push.new.self.items c.first_message_into.new.out (omega arith) c.loop-i.invariant c.in_ok-push.ensures.items c.first_message_into.ensures.value
+    pushed_more (row_message c.args.set.now c.args.r (if c.args.u == first_place c.args.set.now c.args.index then pos (delta c.args.set.now) else pos 0)) 1
+    c.loop-i.i (c.loop-i.i + 1)
+    c.loop-i.messages.items c.push.new.self.items c.first_message_into.new.out (omega arith) c.loop-i.invariant c.in_ok-push.ensures.items
+    c.first_message_into.ensures.value
 
 pub returns : goal.returns
 returns c =

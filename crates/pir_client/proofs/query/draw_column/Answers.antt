@@ -37,6 +37,8 @@ draw_cipher-requires-clause-enough c =
 
 pub returns : goal.returns
 returns c =
-    column_drawn c.args.ring.now c.args.set.now c.args.secret.now (first_messages c.args.set.now c.args.index c.args.u c.args.r) c.deref.result.now c.in_ok-draw_cipher.field-0
-    c.args.draw.now c.draw_cipher.new.draw c.args.ciphers.now.items c.push.new.self.items c.requires.ring (length-first_messages c.args.set.now c.args.index c.args.u c.args.r)
+    column_drawn c.args.ring.now c.args.set.now c.args.secret.now (first_messages c.args.set.now c.args.index c.args.u c.args.r) c.deref.result.now
+    c.in_ok-draw_cipher.field-0
+    c.args.draw.now c.draw_cipher.new.draw c.args.ciphers.now.items c.push.new.self.items c.requires.ring
+    (length-first_messages c.args.set.now c.args.index c.args.u c.args.r)
     (c.deref.ensures.value ∙ c.in_ok-messages.ensures) c.in_ok-draw_cipher.ensures.ok c.in_ok-draw_cipher.ensures.taken c.in_ok-push.ensures.items

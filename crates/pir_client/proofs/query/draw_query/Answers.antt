@@ -29,14 +29,18 @@ drawn : (c : goal.After-result-1)
 drawn c =
     let set = c.args.set.now in
     let s = row_secrets_of set c.args.secret.now in
-    let whole = parts_drawn set c.args.secret.now c.args.index c.args.draw.now c.draw_first.new.draw c.draw_selections.new.draw c.new-ciphers.result.items c.draw_first.new.ciphers.items
+    let whole =
+    parts_drawn set c.args.secret.now c.args.index c.args.draw.now c.draw_first.new.draw c.draw_selections.new.draw c.new-ciphers.result.items
+    c.draw_first.new.ciphers.items
     c.draw_selections.new.ciphers.items c.in_ok-draw_first.ensures c.in_ok-draw_selections.ensures in
     whole.ciphers
-    ∙ ap (λ (old : List Cipher). old ++ encrypted_all set.degree c.args.draw.now.words c.args.draw.now.used s (query_messages set s c.args.index)) c.new-ciphers.ensures.items
+    ∙ ap (λ (old : List Cipher). old ++ encrypted_all set.degree c.args.draw.now.words c.args.draw.now.used s (query_messages set s c.args.index))
+    c.new-ciphers.ensures.items
 
 pub returns-clause-query : goal.returns-clause-query
 returns-clause-query c =
-    query-shape c.args.set.now c.args.draw.now.words c.args.draw.now.used (row_secrets_of c.args.set.now c.args.secret.now) c.args.index c.draw_selections.new.ciphers.items
+    query-shape c.args.set.now c.args.draw.now.words c.args.draw.now.used (row_secrets_of c.args.set.now c.args.secret.now) c.args.index
+    c.draw_selections.new.ciphers.items
     c.requires.known c.requires.direct c.requires.secrets (drawn c)
 
 pub returns-clause-ciphers : goal.returns-clause-ciphers

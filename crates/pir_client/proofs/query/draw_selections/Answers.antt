@@ -16,14 +16,18 @@ pub encrypt_bit-requires-clause-enough : goal.encrypt_bit-requires-clause-enough
 encrypt_bit-requires-clause-enough c =
     let set = c.args.set.now in
     let s = row_secrets_of set c.args.secret.now in
-    pieces_drawn-room set.degree (rows set) (gsw_count set) c.loop-l.l set.nu2 s (selection_columns set s c.args.index) c.args.draw.now c.loop-l.draw c.args.ciphers.now.items
+    pieces_drawn-room set.degree (rows set) (gsw_count set) c.loop-l.l set.nu2 s (selection_columns set s c.args.index) c.args.draw.now c.loop-l.draw
+    c.args.ciphers.now.items
     c.loop-l.ciphers.items (omega arith) (selection-lists set s c.args.index) c.loop-l.invariant c.requires.enough
 
 pub loop-l-preserved : goal.loop-l-preserved
 loop-l-preserved c =
     let set = c.args.set.now in
     let s = row_secrets_of set c.args.secret.now in
-    let here = selection_drawn set c.args.secret.now c.args.index c.loop-l.l (if c.selection-bit.result then 1 else 0) c.loop-l.draw c.encrypt_bit.new.draw c.in_ok-columns.columns.items
+    let here =
+    selection_drawn set c.args.secret.now c.args.index c.loop-l.l (if c.selection-bit.result then 1 else 0) c.loop-l.draw c.encrypt_bit.new.draw
+    c.in_ok-columns.columns.items
     c.loop-l.ciphers.items c.append.new.self.items c.selection-bit.ensures c.in_ok-columns.ensures.ok c.in_ok-append.ensures.items in
-    pieces_drawn-more set.degree (rows set) (gsw_count set) c.loop-l.l s (selection_columns set s c.args.index) c.args.draw.now c.loop-l.draw c.encrypt_bit.new.draw
+    pieces_drawn-more set.degree (rows set) (gsw_count set) c.loop-l.l s (selection_columns set s c.args.index) c.args.draw.now c.loop-l.draw
+    c.encrypt_bit.new.draw
     c.args.ciphers.now.items c.loop-l.ciphers.items c.append.new.self.items (selection-lists set s c.args.index) c.loop-l.invariant here

@@ -1,4 +1,4 @@
-use Rattle.std.proofs.Common.{◌≡◌, ℕ, ◌+◌, ◌*◌, ◌++◌, true, List, [], ◌∷◌, length, All, refl, ◌∙◌, ap, sym, arith}
+use Rattle.std.proofs.Common.{◌≡◌, ℕ, ◌++◌, true, List, [], ◌∷◌, length, refl, ◌∙◌, ap, sym, arith}
 use Rattle.std.proofs.lemmas.List.Elements.{All-nil, All-cons, All-same}
 use Rattle.spiral_model.specs.Words.{Poly, Cipher}
 use Rattle.spiral_model.specs.Ciphertexts.{encrypted_all, words_taken}
@@ -9,7 +9,8 @@ use Rattle.pir_client.proofs.query_message.draw_one.Goals as goal
 
 worked : (c : goal.After-draw_cipher-arg-1) → c.deref.result.now ≡ query_poly c.args.set.now c.args.index ∷ []
 worked c =
-    one_message c.args.set.now c.args.index c.deref.result.now c.push.new.self.items c.new-messages.result.items c.in_ok-query_poly.field-0 c.deref.ensures.value
+    one_message c.args.set.now c.args.index c.deref.result.now c.push.new.self.items c.new-messages.result.items c.in_ok-query_poly.field-0
+    c.deref.ensures.value
     c.in_ok-push.ensures.items c.new-messages.ensures.items c.in_ok-query_poly.ensures.value
 
 pub draw_cipher-requires-clause-some : goal.draw_cipher-requires-clause-some
@@ -33,9 +34,12 @@ draw_cipher-requires-clause-enough c =
 
 drawn : (c : goal.After-drop-messages-2)
     → c.push-2.new.self.items
-    ≡ encrypted_all c.args.set.now.degree c.args.draw.now.words c.args.draw.now.used (under c.args.ring.now c.args.secret.now true) ((query_poly c.args.set.now c.args.index ∷ []) ∷ [])
+    ≡ encrypted_all c.args.set.now.degree c.args.draw.now.words c.args.draw.now.used (under c.args.ring.now c.args.secret.now true)
+    ((query_poly c.args.set.now c.args.index ∷ []) ∷ [])
 drawn c =
-    let read = one_message c.args.set.now c.args.index c.deref.result.now c.push.new.self.items c.new-messages.result.items c.in_ok-query_poly.field-0 c.deref.ensures.value
+    let read =
+    one_message c.args.set.now c.args.index c.deref.result.now c.push.new.self.items c.new-messages.result.items c.in_ok-query_poly.field-0
+    c.deref.ensures.value
     c.in_ok-push.ensures.items c.new-messages.ensures.items c.in_ok-query_poly.ensures.value in
     one_drawn c.args.ring.now c.args.set.now.degree c.args.draw.now.words c.args.draw.now.used (λ n. under n c.args.secret.now true) c.deref.result.now
     (query_poly c.args.set.now c.args.index ∷ []) c.in_ok-draw_cipher.field-0 c.push-2.new.self.items c.requires.ring read c.in_ok-draw_cipher.ensures.ok
@@ -43,7 +47,8 @@ drawn c =
 
 pub returns-clause-query : goal.returns-clause-query
 returns-clause-query c =
-    one-shape c.args.set.now c.args.draw.now.words c.args.draw.now.used (under c.args.ring.now c.args.secret.now true) (query_poly c.args.set.now c.args.index ∷ []) _ c.requires.known
+    one-shape c.args.set.now c.args.draw.now.words c.args.draw.now.used (under c.args.ring.now c.args.secret.now true)
+    (query_poly c.args.set.now c.args.index ∷ []) _ c.requires.known
     c.requires.direct c.requires.scalar refl (drawn c)
 
 pub returns-clause-ciphers : goal.returns-clause-ciphers

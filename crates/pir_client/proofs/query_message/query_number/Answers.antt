@@ -4,7 +4,8 @@ use Rattle.pir_client.proofs.QueryNumbers.{first_side, selection_side}
 use Rattle.pir_client.proofs.query_message.query_number.Goals as goal
 
 pub returns-then-k-eq0-clause-value : goal.returns-then-k-eq0-clause-value
-returns-then-k-eq0-clause-value c = first_side c.args.set.now c.args.index c.args.k c.first_value.result c.halved.result c.if-k-eq0.true c.first_value.ensures.value c.halved.ensures.value
+returns-then-k-eq0-clause-value c =
+    first_side c.args.set.now c.args.index c.args.k c.first_value.result c.halved.result c.if-k-eq0.true c.first_value.ensures.value c.halved.ensures.value
 
 pub returns-else-k-eq0-clause-value : goal.returns-else-k-eq0-clause-value
 returns-else-k-eq0-clause-value c =

@@ -1,4 +1,4 @@
-use Rattle.std.proofs.Common.{◌≡◌, ℕ, length, ◌∙◌, ap, sym, subst}
+use Rattle.std.proofs.Common.{ℕ, length, ◌∙◌, ap, sym, subst}
 use Rattle.std.proofs.lemmas.List.{length-replicate}
 use Rattle.negacyclic.proofs.Stands.{length-reduced}
 use Rattle.spiral_sets.proofs.SetBounds.{degree_cases}
@@ -12,7 +12,8 @@ query_numbers-requires-clause-degree c =
 
 pub from_coeffs-requires-clause-degree : goal.from_coeffs-requires-clause-degree
 from_coeffs-requires-clause-degree c =
-    subst (λ (n : ℕ). IsDegree n) (sym (ap length c.query_numbers.ensures.value ∙ length-reduced _ c.args.set.now.degree _)) (degree_cases c.args.set.now c.requires)
+    subst (λ (n : ℕ). IsDegree n) (sym (ap length c.query_numbers.ensures.value ∙ length-reduced _ c.args.set.now.degree _))
+    (degree_cases c.args.set.now c.requires)
 
 pub returns-clause-value : goal.returns-clause-value
 returns-clause-value c =

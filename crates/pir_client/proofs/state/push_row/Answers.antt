@@ -7,5 +7,6 @@ pub loop-place-preserved : goal.loop-place-preserved
 loop-place-preserved c =
     let row = secret_row c.args.secret.now c.args.r in
     let within : c.loop-place.place < length row = omega (arith, c.requires.degree) in
-    number-more row c.args.out.now.items c.loop-place.out.items c.push.new.self.items c.loop-place.place c.number.result within c.number.ensures.value c.number.ensures.ternary
+    number-more row c.args.out.now.items c.loop-place.out.items c.push.new.self.items c.loop-place.place c.number.result within c.number.ensures.value
+    c.number.ensures.ternary
     c.loop-place.invariant c.in_ok-push.ensures.items

@@ -8,6 +8,7 @@ invariant_of-result c =
     record {
       known = c.requires.known;
       index = c.requires.index;
-      secret_length = ap (λ (xs : List ℤ). length xs) c.in_ok-secret_numbers.ensures.value ∙ length-rows N c.args.secret.now.rows c.requires.degree.rows ∙ ap (λ (n : ℕ). n * N) c.requires.count;
+      secret_length = ap (λ (xs : List ℤ). length xs) c.in_ok-secret_numbers.ensures.value ∙ length-rows N c.args.secret.now.rows c.requires.degree.rows
+          ∙ ap (λ (n : ℕ). n * N) c.requires.count;
       ternary = c.in_ok-secret_numbers.ensures.ternary;
     }

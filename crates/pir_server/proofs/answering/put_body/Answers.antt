@@ -10,11 +10,12 @@ loop-e-init c = filled_part_none body_in with_body body_part (switched_entry c.a
 
 pub loop-e-preserved : goal.loop-e-preserved
 loop-e-preserved c =
-    filled_part_more body_in with_body body_part (switched_entry c.args.set.now c.args.columns.now) c.args.reply.now c.loop-e.reply c.put_entry.new.reply c.loop-e.e
-    (switched_entry c.args.set.now c.args.columns.now c.loop-e.e) (omega (arith, c.requires.entries, c.entries-e-end.ensures.value)) c.put_entry.ensures refl c.loop-e.invariant
+    filled_part_more body_in with_body body_part (switched_entry c.args.set.now c.args.columns.now) c.args.reply.now
+    c.loop-e.reply c.put_entry.new.reply c.loop-e.e (switched_entry c.args.set.now c.args.columns.now c.loop-e.e)
+    (omega (arith, c.requires.entries, c.entries-e-end.ensures.value)) c.put_entry.ensures refl c.loop-e.invariant
 
 pub returns : goal.returns
 unfolding switched_body
 returns c =
-    filled_part_all body_in with_body body_part (switched_entry c.args.set.now c.args.columns.now) c.args.reply.now c.loop-e.reply (entries c.args.set.now) c.loop-e.e
-    c.requires.entries (omega (arith, c.entries-e-end.ensures.value)) c.loop-e.invariant
+    filled_part_all body_in with_body body_part (switched_entry c.args.set.now c.args.columns.now) c.args.reply.now
+    c.loop-e.reply (entries c.args.set.now) c.loop-e.e c.requires.entries (omega (arith, c.entries-e-end.ensures.value)) c.loop-e.invariant

@@ -9,8 +9,9 @@ loop-c-init c = filled_part_none mask_in with_mask mask_part (switched_zeroth c.
 
 pub loop-c-preserved : goal.loop-c-preserved
 loop-c-preserved c =
-    filled_part_more mask_in with_mask mask_part (switched_zeroth c.args.set.now c.args.columns.now) c.args.reply.now c.loop-c.reply c.put_zeroth.new.reply c.loop-c.c
-    (switched_zeroth c.args.set.now c.args.columns.now c.loop-c.c) (omega (arith, c.requires.columns)) c.put_zeroth.ensures refl c.loop-c.invariant
+    filled_part_more mask_in with_mask mask_part (switched_zeroth c.args.set.now c.args.columns.now) c.args.reply.now
+    c.loop-c.reply c.put_zeroth.new.reply c.loop-c.c (switched_zeroth c.args.set.now c.args.columns.now c.loop-c.c)
+    (omega (arith, c.requires.columns)) c.put_zeroth.ensures refl c.loop-c.invariant
 
 pub returns : goal.returns
 unfolding switched_mask

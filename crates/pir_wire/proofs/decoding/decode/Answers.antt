@@ -27,7 +27,8 @@ returns-in-Some-clause-found g c =
     (λ found is_found.
     IfSome_then found is_found
     (λ x is.
-    one_of_body m.KIND laws.one_length (m.message x) (laws.kind_is x) bytes c.in-Some.set c.in-Some.start (begins g (goal.at.returns-in-Some-clause-found g c).In-Some)
+    one_of_body m.KIND laws.one_length (m.message x) (laws.kind_is x) bytes c.in-Some.set c.in-Some.start
+    (begins g (goal.at.returns-in-Some-clause-found g c).In-Some)
     (subst (λ (body : List ℕ). IsBodyOf c.in-Some.set body (m.message x)) (take_rest bytes c.in-Some.start) is)))
     c.from_body.ensures.found
 

@@ -9,7 +9,7 @@ use Rattle.pir_wire.proofs.encode.encode_query.Goals as goal
 
 pub returns : goal.returns
 returns c = record {
-  fits = c.requires;
+  is = c.requires;
   spelled =
       c.in_ok-push_ciphers.ensures
       ∙ ap (λ (ciphers : List Cipher). c.in_ok-out.out.items ++ cipher_bytes ciphers) c.deref.ensures.value

@@ -11,9 +11,10 @@ returns c =
     let front : c.in_ok-out.out.items ≡ header 3 reply.set (reply_len reply.set) =
     c.in_ok-out.ensures ∙ ap (λ (set : ParamSet). header 3 set (reply_len set)) c.set-set.ensures.value in
     record {
-      fits = (c.requires, c.set-set.ensures.kept);
+      is = c.set-set.ensures.kept;
       spelled =
-          reply_spelled reply c.from.result c.from-2.result _ _ _ _ _ c.to_le_bytes.result c.to_le_bytes-2.result (c.requires, c.set-set.ensures.kept)
+          reply_spelled reply c.from.result c.from-2.result _ _ _ _ _ c.to_le_bytes.result c.to_le_bytes-2.result c.set-set.ensures.kept
           front c.to_le_bytes.ensures (c.from.ensures ∙ c.count.ensures.value) c.in_ok-extend_from_slice.ensures.items
-          c.to_le_bytes-2.ensures (c.from-2.ensures ∙ c.length.ensures.value) c.in_ok-extend_from_slice-2.ensures.items c.in_ok-push_body.ensures c.in_ok-push_mask.ensures;
+          c.to_le_bytes-2.ensures (c.from-2.ensures ∙ c.length.ensures.value) c.in_ok-extend_from_slice-2.ensures.items c.in_ok-push_body.ensures
+          c.in_ok-push_mask.ensures;
     }

@@ -10,12 +10,13 @@ use Rattle.pir_wire.proofs.encode.encode_setup.Goals as goal
 
 pub push_ciphers-requires : goal.push_ciphers-requires
 push_ciphers-requires c =
-    degrees_fit c.args.keys.now (record { set = c.keys.inside.set; ciphers = c.keys.inside.ciphers.items }) c.deref.result.now c.deref_mut.result.now c.keys.view_is c.requires.1
-    c.deref.ensures.value (c.deref_mut.ensures.value ∙ c.in_ok-numbers.ensures)
+    let inside : CipherBody = record { set = c.keys.inside.set; ciphers = c.keys.inside.ciphers.items } in
+    degrees_fit c.args.keys.now inside c.deref.result.now c.deref_mut.result.now c.keys.view_is c.requires c.deref.ensures.value
+    (c.deref_mut.ensures.value ∙ c.in_ok-numbers.ensures)
 
 pub returns : goal.returns
 returns c = record {
-  fits = c.requires;
+  is = c.requires;
   spelled =
       c.in_ok-push_ciphers.ensures
       ∙ ap (λ (ciphers : List Cipher). c.in_ok-out.out.items ++ cipher_bytes ciphers) c.deref.ensures.value

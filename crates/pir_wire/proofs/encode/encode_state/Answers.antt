@@ -10,7 +10,7 @@ pub returns : goal.returns
 returns c =
     let view = c.state.view_is in
     record {
-      fits = c.requires;
+      is = c.requires;
       spelled =
           state_spelled c.args.state.now c.from.result _ _ _ c.to_le_bytes.result c.requires
           (c.in_ok-out.ensures ∙ ap (λ (s : QueryState). header 5 s.set (state_len s.set)) view)

@@ -18,7 +18,8 @@ loop-e-preserved c =
     let within : e < length reply.body = omega (arith, kept.body_count) in
     let numbers : c.numbers-numbers.result.now ≡ poly_of reply.body e =
     c.numbers-numbers.ensures.value ∙ ap (λ (s : ParamSet). poly_in reply (e / s.n + 1) (e % s.n + 1)) set_is ∙ poly_in-body reply e in
-    polys_more (packed reply.set (q1_bits reply.set)) reply.body e c.args.out.now.items c.loop-e.out.items c.push_packed.new.out.items c.numbers-numbers.result.now within numbers
+    polys_more (packed reply.set (q1_bits reply.set)) reply.body e c.args.out.now.items c.loop-e.out.items c.push_packed.new.out.items
+    c.numbers-numbers.result.now within numbers
     c.loop-e.invariant
     (c.in_ok-push_packed.ensures
     ∙ ap (λ (width : _). c.loop-e.out.items ++ packed c.set-set.result width c.numbers-numbers.result.now) c.q1_bits.ensures.value

@@ -14,6 +14,7 @@ loop-column-preserved c =
     let set_is = c.set-set.ensures.value in
     let within : column < length reply.mask = omega (arith, kept.mask_count, ap (λ (s : ParamSet). s.n) set_is) in
     let numbers : c.numbers.result.now ≡ poly_of reply.mask column = c.numbers.ensures.value ∙ poly_in-mask reply column in
-    polys_more (packed reply.set reply.set.q2_bits) reply.mask column c.args.out.now.items c.loop-column.out.items c.push_packed.new.out.items c.numbers.result.now within numbers
+    polys_more (packed reply.set reply.set.q2_bits) reply.mask column c.args.out.now.items c.loop-column.out.items c.push_packed.new.out.items
+    c.numbers.result.now within numbers
     c.loop-column.invariant
     (c.in_ok-push_packed.ensures ∙ ap (λ (s : ParamSet). c.loop-column.out.items ++ packed s s.q2_bits c.numbers.result.now) set_is)

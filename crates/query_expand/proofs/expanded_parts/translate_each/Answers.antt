@@ -4,7 +4,8 @@ use Rattle.query_expand.proofs.expanded_parts.translate_each.Goals as goal
 
 pub loop-l-init : goal.loop-l-init
 loop-l-init c =
-    translates_each-none c.args.set.now c.args.keys.now c.args.ciphers.now c.new-gsws.result.items c.args.scratch.now c.new-gsws.ensures.items c.requires.scratch
+    translates_each-none c.args.set.now c.args.keys.now c.args.ciphers.now c.new-gsws.result.items c.args.scratch.now c.new-gsws.ensures.items
+    c.requires.scratch
 
 pub returns-clause-value : goal.returns-clause-value
 returns-clause-value c =
@@ -14,8 +15,10 @@ pub loop-l-preserved : goal.loop-l-preserved
 loop-l-preserved c =
     let l = c.loop-l.l in
     let digits = c.digit_count-digits.result in
-    translates_each-more c.args.set.now c.args.keys.now c.args.ciphers.now c.loop-l.l c.loop-l.gsws.items c.push.new.self.items c.in_ok-from_columns.field-0 c.loop-l.scratch
+    translates_each-more c.args.set.now c.args.keys.now c.args.ciphers.now c.loop-l.l c.loop-l.gsws.items c.push.new.self.items c.in_ok-from_columns.field-0
+    c.loop-l.scratch
     c.translate.new.scratch c.loop-l.invariant
-    (part_is c.args.set.now c.args.keys.now c.args.ciphers.now _ l (l * digits) (l * digits + digits - l * digits) digits c.in_ok-columns.columns.items c.in_ok-from_columns.field-0
+    (part_is c.args.set.now c.args.keys.now c.args.ciphers.now _ l (l * digits) (l * digits + digits - l * digits) digits c.in_ok-columns.columns.items
+    c.in_ok-from_columns.field-0
     c.digit_count-digits.ensures.value refl (omega arith) refl c.in_ok-columns.ensures.value (c.in_ok-from_columns.ensures.value ∙ c.deref.ensures.value))
     c.in_ok-from_columns.ensures.shape c.translate.ensures.scratch c.in_ok-push.ensures.items

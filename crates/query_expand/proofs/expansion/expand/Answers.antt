@@ -1,4 +1,4 @@
-use Rattle.std.proofs.Common.{◌≡◌, ◌+◌, ◌*◌, ◌%◌, ◌^◌, ◌∙◌, length, ap, subst, arith}
+use Rattle.std.proofs.Common.{◌+◌, ◌^◌, ◌∙◌, length, ap, subst, arith}
 use Rattle.std.proofs.lemmas.Nat.{pow_pos}
 use Rattle.negacyclic.proofs.Lists.{length-refilled}
 use Rattle.ring_poly.specs.Polynomials.{IsDegree}

@@ -28,18 +28,21 @@ overflow_add-round c =
 
 pub expand_once-requires-clause-round : goal.expand_once-requires-clause-round
 expand_once-requires-clause-round c =
-    round_within c.args.ring.now c.args.first_round (length c.args.rounds.now) c.loop-key.key-index c.loop-key.round (omega arith) c.loop-key.invariant.expands.counted c.requires.rounds
+    round_within c.args.ring.now c.args.first_round (length c.args.rounds.now) c.loop-key.key-index c.loop-key.round (omega arith)
+    c.loop-key.invariant.expands.counted c.requires.rounds
 
 pub expand_once-requires-clause-within : goal.expand_once-requires-clause-within
 expand_once-requires-clause-within c =
-    room_for (length c.args.rounds.now) c.loop-key.key-index c.loop-key.size (length c.loop-key.ciphers) (omega arith) c.loop-key.invariant.expands.doubled (c.loop-key.auto.ciphers ∙ c.requires.count)
+    room_for (length c.args.rounds.now) c.loop-key.key-index c.loop-key.size (length c.loop-key.ciphers) (omega arith) c.loop-key.invariant.expands.doubled
+    (c.loop-key.auto.ciphers ∙ c.requires.count)
 
 pub loop-key-preserved : goal.loop-key-preserved
 loop-key-preserved c =
     let place : c.loop-key.key-index < length c.args.rounds.now = omega arith in
     record {
       expands =
-          expands-more c.args.ring.now c.args.first_round c.args.rounds.now c.args.ciphers.now c.loop-key.key-index c.loop-key.size c.loop-key.round (c.loop-key.size * 2) c.loop-key.ciphers
+          expands-more c.args.ring.now c.args.first_round c.args.rounds.now c.args.ciphers.now c.loop-key.key-index c.loop-key.size c.loop-key.round
+          (c.loop-key.size * 2) c.loop-key.ciphers
           c.expand_once.new.ciphers c.key-item.result place c.key-item.is (omega arith) c.expand_once.ensures.value c.loop-key.invariant.expands;
       shapes = c.expand_once.ensures.shapes;
       image = c.expand_once.ensures.image;
@@ -48,5 +51,6 @@ loop-key-preserved c =
 
 pub returns-clause-value : goal.returns-clause-value
 returns-clause-value c =
-    expands-all c.args.ring.now c.args.first_round c.args.rounds.now c.args.ciphers.now c.loop-key.key-index c.loop-key.size c.loop-key.round c.loop-key.ciphers (omega arith)
+    expands-all c.args.ring.now c.args.first_round c.args.rounds.now c.args.ciphers.now c.loop-key.key-index c.loop-key.size c.loop-key.round
+    c.loop-key.ciphers (omega arith)
     (c.loop-key.auto.ciphers ∙ c.requires.count) c.loop-key.invariant.expands

@@ -4,7 +4,8 @@ use Rattle.query_expand.proofs.expansion.with_zeros.Goals as goal
 
 pub loop-init : goal.loop-init
 loop-init c =
-    starts-none c.args.set.now.degree c.args.c.now c.in_ok-copy_of.field-0 c.new-ciphers.result.items c.push.new.self.items c.requires.c c.in_ok-copy_of.ensures (search rules)
+    starts-none c.args.set.now.degree c.args.c.now c.in_ok-copy_of.field-0 c.new-ciphers.result.items c.push.new.self.items c.requires.c
+    c.in_ok-copy_of.ensures (search rules)
     c.in_ok-push.ensures.items
 
 pub loop-preserved : goal.loop-preserved

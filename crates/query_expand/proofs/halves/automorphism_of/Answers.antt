@@ -1,7 +1,6 @@
-use Rattle.std.proofs.Common.{◌≡◌, ◌+◌, ◌*◌, ◌/◌, ◌%◌, ◌^◌, ℕ, ◌∙◌, ap, ap₂, subst, arith}
+use Rattle.std.proofs.Common.{◌+◌, ◌/◌, ◌%◌, ℕ, ◌∙◌, ap₂, subst, arith}
 use Rattle.std.proofs.lemmas.Nat.{pow_pos}
 use Rattle.ring_poly.specs.Polynomials.{IsDegree}
-use Rattle.spiral_model.specs.Expansion.{round_power}
 use Rattle.query_expand.proofs.RoundPowers.{power_odd, round_small, shifted_one}
 use Rattle.query_expand.proofs.halves.automorphism_of.Goals as goal
 

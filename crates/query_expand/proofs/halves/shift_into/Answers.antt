@@ -1,4 +1,4 @@
-use Rattle.std.proofs.Common.{◌≡◌, ◌∙◌, ◌++◌, ℕ, List, length, take, drop, sym, ap, subst, arith}
+use Rattle.std.proofs.Common.{◌≡◌, ◌∙◌, ◌++◌, length, take, drop, sym, ap, subst, arith}
 use Rattle.spiral_model.specs.Expansion.{cipher_shift}
 use Rattle.regev_code.specs.Shapes.{IsCipher}
 use Rattle.regev_code.specs.Products.{HasShape}
@@ -7,7 +7,8 @@ use Rattle.regev_code.proofs.Products.{cipher_kept}
 use Rattle.query_expand.proofs.HalfRows.{shift-shape}
 use Rattle.query_expand.proofs.halves.shift_into.Goals as goal
 
-whole : (c : goal.After-out-1) → take c.out.inside.polys.len (c.shift_rows.new.to ++ drop (length c.shift_rows.new.to) c.out.inside.polys.items) ≡ c.shift_rows.new.to
+whole : (c : goal.After-out-1)
+    → take c.out.inside.polys.len (c.shift_rows.new.to ++ drop (length c.shift_rows.new.to) c.out.inside.polys.items) ≡ c.shift_rows.new.to
 whole c = refilled _ c.shift_rows.new.to _ (omega arith)
 
 value : (c : goal.After-out-1) → c.shift_rows.new.to ≡ cipher_shift c.args.ring.now c.args.e c.args.c.now

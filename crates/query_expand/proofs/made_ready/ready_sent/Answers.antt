@@ -24,4 +24,4 @@ returns-clause-value c =
 pub returns-clause-shape : goal.returns-clause-shape
 returns-clause-shape c =
     sent-shape c.args.set.now c.args.ciphers.now c.in_ok-forms_of.field-0.items c.in_ok-sent_gsws.field-0.items
-    (record { count = c.requires.count; shapes = c.requires.shapes }) (front c) c.in_ok-sent_gsws.ensures.value c.in_ok-sent_gsws.ensures.shapes
+    c.requires.count c.requires.shapes (front c) c.in_ok-sent_gsws.ensures.value c.in_ok-sent_gsws.ensures.shapes

@@ -16,7 +16,8 @@ pub loop-l-preserved : goal.loop-l-preserved
 loop-l-preserved c = (
   pushed_more (gsw_of c.args.set.now c.args.ciphers.now) 0 c.loop-l.l c.loop-l.l c.loop-l.gsws.items c.push.new.self.items c.in_ok-from_columns.field-0
       (omega arith) c.loop-l.invariant.0 c.in_ok-push.ensures.items
-      (gsw_cut c.args.set.now c.args.ciphers.now c.loop-l.l _ _ c.firsts_count-firsts.result c.gsw_count-count.result c.in_ok-from_columns.field-0 c.firsts_count-firsts.ensures.value c.gsw_count-count.ensures.value
+      (gsw_cut c.args.set.now c.args.ciphers.now c.loop-l.l _ _ c.firsts_count-firsts.result c.gsw_count-count.result c.in_ok-from_columns.field-0
+      c.firsts_count-firsts.ensures.value c.gsw_count-count.ensures.value
       refl (omega arith) c.in_ok-from_columns.ensures.value),
   All-same (IsGsw c.args.set.now) c.push.new.self.items _ c.in_ok-push.ensures.items
       (All-push (IsGsw c.args.set.now) c.loop-l.gsws.items c.in_ok-from_columns.field-0 c.loop-l.invariant.1 c.in_ok-from_columns.ensures.shape),

@@ -20,7 +20,8 @@ pub returns-then-bytes-start-2 : goal.returns-then-bytes-start-2
 returns-then-bytes-start-2 c =
     let count : c.number_at-count.result ≡ number_at c.args.bytes.now (header_len_in c.args.bytes.now) =
     c.number_at-count.ensures ∙ ap (number_at c.args.bytes.now) c.requires.start in
-    ends_in_length c.args.bytes.now c.args.set (omega arith) (omega (arith, c.max_records.ensures)) (omega arith) ∙ ap Some (sym c.short-then-bytes-start-2.ensures)
+    ends_in_length c.args.bytes.now c.args.set (omega arith) (omega (arith, c.max_records.ensures)) (omega arith)
+    ∙ ap Some (sym c.short-then-bytes-start-2.ensures)
 
 pub returns-then-length-eq0 : goal.returns-then-length-eq0
 returns-then-length-eq0 c =
@@ -31,9 +32,13 @@ returns-then-length-eq0 c =
     c.number_at-length.ensures ∙ ap (λ (k : ℕ). number_at bytes (k + 8)) c.requires.start in
     let refused = wrong_length bytes c.args.set (omega arith) (omega (arith, c.max_records.ensures)) (omega arith) in
     elim c.then-length-eq0.branch [
-      | then-length-eq0-via-then-length-eq0 w ↦ rw (len, c.requires.start) (refused (no_length (number_at bytes (header_len_in bytes + 8)) (capacity c.args.set) (inl (sym len ∙ w.if-length-eq0.true))))
+      | then-length-eq0-via-then-length-eq0 w ↦
+          rw (len, c.requires.start)
+          (refused (no_length (number_at bytes (header_len_in bytes + 8)) (capacity c.args.set) (inl (sym len ∙ w.if-length-eq0.true))))
       | then-length-eq0-via-else-length-eq0+then-length-capacity w ↦
-          rw (len, c.requires.start) (refused (no_length (number_at bytes (header_len_in bytes + 8)) (capacity c.args.set) (inr (omega (arith, len, w.capacity.ensures, w.if-length-capacity.true)))))
+          rw (len, c.requires.start)
+          (refused (no_length (number_at bytes (header_len_in bytes + 8)) (capacity c.args.set)
+          (inr (omega (arith, len, w.capacity.ensures, w.if-length-capacity.true)))))
     ]
 
 pub overflow_mul-count : goal.overflow_mul-count

@@ -1,4 +1,3 @@
-use Rattle.std.proofs.Common.{◌≢◌, arith}
 use Rattle.regev_to_gsw.proofs.Translations.{column-converted, column-same, column-lifted}
 use Rattle.regev_to_gsw.proofs.columns.column.Goals as goal
 

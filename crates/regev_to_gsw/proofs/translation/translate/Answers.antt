@@ -1,4 +1,4 @@
-use Rattle.std.proofs.Common.{◌<◌, ◌%◌, ◌∙◌, [], length, arith}
+use Rattle.std.proofs.Common.{◌<◌, ◌%◌, [], length, arith}
 use Rattle.std.proofs.lemmas.List.{get_or_read}
 use Rattle.regev_to_gsw.proofs.Translations.{row_within, digit_within, translates-none, translates-more, translates-all, translates-count}
 use Rattle.regev_to_gsw.proofs.translation.translate.Goals as goal
@@ -9,8 +9,9 @@ loop-place-init c =
 
 pub column-requires-clause-row : goal.column-requires-clause-row
 column-requires-clause-row c =
-    row_within c.args.set.now c.loop-place.place c.gsw_count-place-end.result c.digit_count-digits.result c.digit_count-digits.ensures.value c.gsw_count-place-end.ensures.value
-    c.digit_count-digits.ensures.some c.loop-place-test.true
+    let within = row_within c.args.set.now c.loop-place.place c.gsw_count-place-end.result c.digit_count-digits.result c.digit_count-digits.ensures.value c.gsw_count-place-end.ensures.value
+    c.digit_count-digits.ensures.some c.loop-place-test.true in
+    omega (arith, within)
 
 pub returns-clause-value : goal.returns-clause-value
 returns-clause-value c =

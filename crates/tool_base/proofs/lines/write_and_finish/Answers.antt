@@ -1,4 +1,4 @@
-use Rattle.std.proofs.Common.{ℕ, List, ◌<◌, length, sym, subst}
+use Rattle.std.proofs.Common.{List, ◌<◌, length, sym, subst}
 use Rattle.std.proofs.lemmas.List.{length-map}
 use Rattle.tool_base.specs.declared.output.Output.{Output as Given}
 use Rattle.tool_base.specs.Outputs.{output_seen, outputs_seen}

@@ -17,20 +17,20 @@ use Rattle.tool_files.proofs.Answering.{no_database}
 use Rattle.tool_files.proofs.answer.answer_files.Goals as goal
 
 pub returns-in-Err : goal.returns-in-Err
-returns-in-Err g c = behind c.in-Err.ensures.reads.only (inl (no_database _ _ _ _ _ c.in-Err.error c.refuse_database.result c.in-Err.ensures.reads c.refuse_database.ensures))
+returns-in-Err g c = behind c.in-Err.ensures.only (inl (no_database _ _ _ _ _ c.in-Err.error c.refuse_database.result c.in-Err.ensures c.refuse_database.ensures))
 
 pub returns-in-Err-read_setup : goal.returns-in-Err-read_setup
 returns-in-Err-read_setup g c =
     let db_set : c.db.inside.set ≡ c.in-Ok.db.set = ap (λ (t : RecordTable). t.set) c.db.view_is in
     let reads = read_for _ _ _ _ _ _ db_set c.in-Err-read_setup.ensures.reads in
-    behind c.in-Ok.ensures.reads.only (found c.in-Ok.db (λ told. (c.in-Ok.ensures.reads.cause told).0) (behind reads.only
+    behind c.in-Ok.ensures.only (found c.in-Ok.db (λ told. (c.in-Ok.ensures.cause told).0) (behind reads.only
     (inl (not_read (SpellsKeys c.in-Ok.db.set) _ _ _ _ _ c.in-Err-read_setup.error c.refuse_input.result reads c.refuse_input.ensures))))
 
 pub returns-in-Err-read_message : goal.returns-in-Err-read_message
 returns-in-Err-read_message g c =
     let db_set : c.db.inside.set ≡ c.in-Ok.db.set = ap (λ (t : RecordTable). t.set) c.db.view_is in
     let reads = read_for _ _ _ _ _ _ db_set c.in-Ok-read_setup.ensures.reads in
-    behind c.in-Ok.ensures.reads.only (found c.in-Ok.db (λ told. (c.in-Ok.ensures.reads.cause told).0) (behind reads.only
+    behind c.in-Ok.ensures.only (found c.in-Ok.db (λ told. (c.in-Ok.ensures.cause told).0) (behind reads.only
     (found c.in-Ok-read_setup.setup reads.found (behind c.in-Err-read_message.ensures.reads.only
     (inl (not_read SpellsQuery _ _ _ _ _ c.in-Err-read_message.error c.refuse_input-in-Err-read_message.result c.in-Err-read_message.ensures.reads c.refuse_input-in-Err-read_message.ensures))))))
 
@@ -50,7 +50,7 @@ returns-then-not-is g c =
     ∙ ap (λ (o : Option CipherBody). set_of_setup c.in-Ok.db.set o) keys in
     let line : wrong_set_line (name_of c.db.inside.set) (name_of c.set_of_setup-keys_set.result) ≡ wrong_set_line (name_of c.in-Ok.db.set) (name_of (set_of_setup c.in-Ok.db.set c.in-Ok-read_setup.setup)) =
     ap (λ (a : ParamSet). wrong_set_line (name_of a) (name_of c.set_of_setup-keys_set.result)) db_set ∙ ap (λ (b : ParamSet). wrong_set_line (name_of c.in-Ok.db.set) (name_of b)) keys_set in
-    behind c.in-Ok.ensures.reads.only (found c.in-Ok.db (λ told. (c.in-Ok.ensures.reads.cause told).0) (behind reads.only
+    behind c.in-Ok.ensures.only (found c.in-Ok.db (λ told. (c.in-Ok.ensures.cause told).0) (behind reads.only
     (found c.in-Ok-read_setup.setup reads.found (behind c.in-Ok-read_message.ensures.reads.only
     (found c.in-Ok-read_message.query c.in-Ok-read_message.ensures.reads.found
     (denied (λ same. c.if-not-is.ensures.other refl (db_set ∙ same ∙ sym keys_set)) refl (refused_as _ _ _ _ _ _ line c.refuse_set.ensures)))))))
@@ -66,7 +66,7 @@ returns-then-not-is-2 g c =
     let query_set : c.query.inside.set ≡ c.in-Ok-read_message.query.set = ap (λ (q : CipherBody). q.set) c.query.view_is in
     let line : wrong_set_line (name_of c.db.inside.set) (name_of c.query.inside.set) ≡ wrong_set_line (name_of c.in-Ok.db.set) (name_of c.in-Ok-read_message.query.set) =
     ap (λ (a : ParamSet). wrong_set_line (name_of a) (name_of c.query.inside.set)) db_set ∙ ap (λ (b : ParamSet). wrong_set_line (name_of c.in-Ok.db.set) (name_of b)) query_set in
-    behind c.in-Ok.ensures.reads.only (found c.in-Ok.db (λ told. (c.in-Ok.ensures.reads.cause told).0) (behind reads.only
+    behind c.in-Ok.ensures.only (found c.in-Ok.db (λ told. (c.in-Ok.ensures.cause told).0) (behind reads.only
     (found c.in-Ok-read_setup.setup reads.found (behind c.in-Ok-read_message.ensures.reads.only
     (found c.in-Ok-read_message.query c.in-Ok-read_message.ensures.reads.found
     (held (sym db_set ∙ c.if-not-is.ensures.same refl ∙ keys_set)
@@ -92,7 +92,7 @@ returns-in-Ok-reply_frame g c =
     let setup : Option SetKeys = option_map keys_in c.in-Ok-read_setup.setup in
     let bytes : c.deref.result.now ≡ reply_frame c.in-Ok.db setup c.in-Ok-read_message.query =
     c.deref.ensures.value ∙ c.in-Ok-reply_frame.ensures ∙ ap (λ (o : Option CipherBody). reply_frame c.in-Ok.db (option_map keys_in o) c.in-Ok-read_message.query) keys in
-    behind c.in-Ok.ensures.reads.only (found c.in-Ok.db (λ told. (c.in-Ok.ensures.reads.cause told).0) (behind reads.only
+    behind c.in-Ok.ensures.only (found c.in-Ok.db (λ told. (c.in-Ok.ensures.cause told).0) (behind reads.only
     (found c.in-Ok-read_setup.setup reads.found (behind c.in-Ok-read_message.ensures.reads.only
     (found c.in-Ok-read_message.query c.in-Ok-read_message.ensures.reads.found
     (held (sym db_set ∙ c.if-not-is.ensures.same refl ∙ keys_set) (held (sym db_set ∙ c.if-not-is-2.ensures.same refl ∙ query_set)
@@ -111,7 +111,7 @@ returns g c =
     ∙ ap (λ (o : Option CipherBody). set_of_setup c.in-Ok.db.set o) keys in
     let query_set : c.query.inside.set ≡ c.in-Ok-read_message.query.set = ap (λ (q : CipherBody). q.set) c.query.view_is in
     let setup : Option SetKeys = option_map keys_in c.in-Ok-read_setup.setup in
-    behind c.in-Ok.ensures.reads.only (found c.in-Ok.db (λ told. (c.in-Ok.ensures.reads.cause told).0) (behind reads.only
+    behind c.in-Ok.ensures.only (found c.in-Ok.db (λ told. (c.in-Ok.ensures.cause told).0) (behind reads.only
     (found c.in-Ok-read_setup.setup reads.found (behind c.in-Ok-read_message.ensures.reads.only
     (found c.in-Ok-read_message.query c.in-Ok-read_message.ensures.reads.found
     (held (sym db_set ∙ c.if-not-is.ensures.same refl ∙ keys_set) (held (sym db_set ∙ c.if-not-is-2.ensures.same refl ∙ query_set)

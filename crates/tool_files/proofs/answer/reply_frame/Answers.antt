@@ -1,26 +1,16 @@
 use Rattle.std.proofs.Common.{◌≡◌, ◌∙◌, Option, option_map, option_copied, ap, sym, subst}
 use Rattle.spiral_sets.specs.declared.param_set.ParamSet.{ParamSet}
-use Rattle.spiral_model.specs.Sets.{IsBuilt}
 use Rattle.spiral_model.specs.Keys.{SetKeys, keys_in}
-use Rattle.spiral_model.specs.Replies.{SwitchedReply}
 use Rattle.pir_server.specs.Served.{Served}
 use Rattle.tool_files.specs.Given.{IsGiven}
 use Rattle.tool_files.specs.Answer.{reply_for}
-use Rattle.tool_files.proofs.Answering.{answer_set, reply_spelled}
+use Rattle.tool_files.proofs.Answering.{reply_spelled}
 use Rattle.tool_files.proofs.answer.reply_frame.Goals as goal
 
 pub answer_with-requires-clause-setup : goal.answer_with-requires-clause-setup
 answer_with-requires-clause-setup g c κs within =
     let set_is = ap (λ (server : Served). server.table.set) c.in_ok-server.ensures in
     subst (λ (s : ParamSet). IsGiven s (option_copied c.args.setup)) (sym set_is) c.requires.setup
-
-pub encode_reply-requires : goal.encode_reply-requires
-encode_reply-requires g c =
-    let keys : Option SetKeys = option_map keys_in (option_copied c.args.setup) in
-    let set_is : c.in_ok-reply.reply.set ≡ c.args.db.set =
-    ap (λ (reply : SwitchedReply). reply.set) c.in_ok-reply.ensures ∙ answer_set c.in_ok-server.server.table keys c.args.query.now
-    ∙ ap (λ (server : Served). server.table.set) c.in_ok-server.ensures in
-    subst IsBuilt (sym set_is) c.requires.built
 
 pub returns : goal.returns
 returns g c =

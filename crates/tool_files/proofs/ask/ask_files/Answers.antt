@@ -1,11 +1,9 @@
-use Rattle.std.proofs.Common.{inl, inr, refl, sym, subst}
-use Rattle.spiral_sets.specs.declared.param_set.ParamSet.{ParamSet}
-use Rattle.spiral_model.specs.Sets.{IsBuilt}
+use Rattle.std.proofs.Common.{inl, inr, refl}
 use Rattle.tool_base.specs.Steps.{scene}
 use Rattle.tool_base.specs.Texts.{too_noisy_line}
 use Rattle.tool_base.specs.Words.{ask_seen}
 use Rattle.tool_base.proofs.Courses.{write_as}
-use Rattle.tool_files.proofs.Asking.{ask_rest, set_of_asked, outputs_are, line_is}
+use Rattle.tool_files.proofs.Asking.{ask_rest, outputs_are, line_is}
 use Rattle.tool_files.proofs.GivenWords.{with_given, without_words, named_words}
 use Rattle.tool_files.proofs.ask.ask_files.Goals as goal
 
@@ -13,11 +11,8 @@ pub returns-in-Err : goal.returns-in-Err
 returns-in-Err g c =
     let a = ask_seen c.args.ask.now in without_words a.set_name a.index a.source (ask_rest a) _ c.in-Err.status c.in-Err.ensures
 
-pub ask-requires-clause-known : goal.ask-requires-clause-known
-ask-requires-clause-known g c = c.in-Ok.ensures.0.known
-
-pub write_asked-requires : goal.write_asked-requires
-write_asked-requires g c = subst (λ (set : ParamSet). IsBuilt set) (sym (set_of_asked _ _ _ c.in-Ok-ask.asked c.in-Ok-ask.ensures.asks.1)) c.in-Ok.ensures.0.names.built
+pub ask-requires : goal.ask-requires
+ask-requires g c = record { known = c.in-Ok.ensures.0.known }
 
 pub returns-in-Ok-ask : goal.returns-in-Ok-ask
 returns-in-Ok-ask g c =

@@ -3,7 +3,7 @@ use Rattle.std.proofs.lemmas.Option.{MatchOption-at_some, MatchOption-at_none}
 use Rattle.std.proofs.lemmas.Result.{IfOk-at_ok}
 use Rattle.pir_io.specs.Files.{content_of}
 use Rattle.spiral_sets.specs.declared.param_set.ParamSet.{ParamSet}
-use Rattle.spiral_sets.specs.Sets.{IsSet, IsBuilt}
+use Rattle.spiral_sets.specs.Sets.{IsSet}
 use Rattle.frame_headers.specs.declared.kind.FrameKind.{FrameKind}
 use Rattle.spiral_frames.specs.Frames.{IsOne}
 use Rattle.pir_wire.specs.Headers.{frame_len_of}
@@ -22,7 +22,7 @@ in_file g c x tells =
     let content : List ℕ = content_of (g.F.Files.seen c.args.files.now) c.args.name.now in
     let front : c.in-Ok.bytes.items ≡ take limit content = IfOk-at_ok _ c.in-Ok.is (c.read_front.ensures.front tells) in
     one_of_front m.KIND laws.one_length (m.message x) (laws.kind_is x) limit
-    (subst (λ (kind : FrameKind). (set : ParamSet) → IsSet set → IsBuilt set → frame_len_of kind set < limit) c.KIND.ensures c.reading_limit.ensures)
+    (subst (λ (kind : FrameKind). (set : ParamSet) → IsSet set → frame_len_of kind set < limit) c.KIND.ensures c.reading_limit.ensures)
     c.deref.result.now content (c.deref.ensures.value ∙ front)
 
 pub returns-in-Ok-Some-clause-reads : goal.returns-in-Ok-Some-clause-reads

@@ -8,8 +8,8 @@ pub returns-in-Err : goal.returns-in-Err
 returns-in-Err g c =
     let n = noise_seen c.args.noise.now in without_words n.set_name n.index n.source (noise_rest n) _ c.in-Err.status c.in-Err.ensures
 
-pub measure_for-requires-clause-known : goal.measure_for-requires-clause-known
-measure_for-requires-clause-known g c = c.in-Ok.ensures.0.known
+pub measure_for-requires : goal.measure_for-requires
+measure_for-requires g c = record { known = c.in-Ok.ensures.0.known }
 
 pub returns : goal.returns
 returns g c =

@@ -1,5 +1,3 @@
-use Rattle.std.proofs.Common.{map, string_bytes}
-use Rattle.tool_base.specs.Steps.{scene}
 use Rattle.tool_run.proofs.Executed.{ran}
 use Rattle.tool_run.proofs.Retrieved.{run_retrieves}
 use Rattle.tool_run.proofs.program.run.Goals as goal

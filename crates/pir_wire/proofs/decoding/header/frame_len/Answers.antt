@@ -7,7 +7,8 @@ use Rattle.pir_wire.proofs.decoding.header.frame_len.Goals as goal
 
 pub returns-clause-value : goal.returns-clause-value
 returns-clause-value c =
-    omega (arith, ap length c.name.ensures, length-header (code_of_kind c.args.kind) c.args.set.now (body_len_of c.args.kind c.args.set.now), c.body_len.ensures)
+    let set = c.args.set.now in
+    omega (arith, ap length c.name.ensures, length-header (code_of_kind c.args.kind) set (body_len_of c.args.kind set), c.body_len.ensures)
 
 pub returns-clause-most : goal.returns-clause-most
 returns-clause-most c =

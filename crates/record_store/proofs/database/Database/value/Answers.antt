@@ -28,5 +28,6 @@ pub returns-in-None-clause-value : goal.returns-in-None-clause-value
 returns-in-None-clause-value c =
     let set = c.args.self.now.set in
     let is : IsTable c.args.self.now = subst (λ (table : RecordTable). IsTable table) c.self.view_is c.self.invariant in
-    sym (ap (λ (bytes : List ℕ). get_or (entry_of set (values_of set bytes) c.args.entry) c.args.place 0) (no_record c.args.self.now c.args.i is c.in-None.ensures)
+    sym (ap (λ (bytes : List ℕ). get_or (entry_of set (values_of set bytes) c.args.entry) c.args.place 0)
+    (no_record c.args.self.now c.args.i is c.in-None.ensures)
     ∙ value_of_none set c.args.entry c.args.place c.requires.entry c.requires.place)

@@ -27,7 +27,8 @@ returns-then-length-eq0-clause-none c =
     (λ reply is.
     elim c.then-length-eq0.branch [
       | then-length-eq0-via-then-length-eq0 w ↦ omega (arith, record_length_some c.args.set.now c.args.body.now reply is, c.number_at-length.ensures)
-      | then-length-eq0-via-else-length-eq0+then-length-capacity w ↦ omega (arith, record_length_within c.args.set.now c.args.body.now reply is, c.number_at-length.ensures)
+      | then-length-eq0-via-else-length-eq0+then-length-capacity w ↦
+          omega (arith, record_length_within c.args.set.now c.args.body.now reply is, c.number_at-length.ensures)
     ])
 
 -- where row 0 begins
@@ -39,26 +40,26 @@ returns-in_default-clause-none c =
     of_kind (λ m. IsBodyOf c.args.set.now c.args.body.now m → ⊥) Reply
     (λ reply is.
     MatchOption-at_none _ _ c.in_default.is c.in_ok-rows.ensures.none reply.body
-    (entries_of_reply c.args.set.now c.args.body.now c.q1_bits.result c.entries.result (16 + c.entries.result * c.len.result) c.q1_bits.ensures.value c.entries.ensures.value
-    (middle (goal.at.returns-in_default-clause-none c).After-len) reply is))
+    (entries_of_reply c.args.set.now c.args.body.now c.q1_bits.result c.entries.result (16 + c.entries.result * c.len.result) c.q1_bits.ensures.value
+    c.entries.ensures.value (middle (goal.at.returns-in_default-clause-none c).After-len) reply is))
 
 pub pieces-requires-2-clause-sizes : goal.pieces-requires-2-clause-sizes
 pieces-requires-2-clause-sizes c =
-    (degree_cases c.args.set.now c.requires.known, omega (arith, q2_bits-some c.args.set.now c.requires.known), omega (arith, q2_bits-most c.args.set.now c.requires.known))
+    (degree_cases c.args.set.now c.requires, omega (arith, q2_bits-some c.args.set.now c.requires), omega (arith, q2_bits-most c.args.set.now c.requires))
 
 pub returns-in_default-2-clause-none : goal.returns-in_default-2-clause-none
 returns-in_default-2-clause-none c =
     of_kind (λ m. IsBodyOf c.args.set.now c.args.body.now m → ⊥) Reply
     (λ reply is.
     MatchOption-at_none _ _ c.in_default-2.is c.in_ok-mask.ensures.none reply.mask
-    (mask_of_reply c.args.set.now c.args.body.now c.q1_bits.result c.entries.result (16 + c.entries.result * c.len.result) c.q1_bits.ensures.value c.entries.ensures.value
-    (middle (goal.at.returns-in_default-2-clause-none c).After-len) reply is))
+    (mask_of_reply c.args.set.now c.args.body.now c.q1_bits.result c.entries.result (16 + c.entries.result * c.len.result) c.q1_bits.ensures.value
+    c.entries.ensures.value (middle (goal.at.returns-in_default-2-clause-none c).After-len) reply is))
 
 pub overflow_cast-count : goal.overflow_cast-count
-overflow_cast-count c = omega (arith, max_records-most c.args.set.now c.requires.known, c.max_records.ensures)
+overflow_cast-count c = omega (arith, max_records-most c.args.set.now c.requires, c.max_records.ensures)
 
 pub overflow_cast-length : goal.overflow_cast-length
-overflow_cast-length c = omega (arith, capacity-most c.args.set.now c.requires.known, c.capacity.ensures)
+overflow_cast-length c = omega (arith, capacity-most c.args.set.now c.requires, c.capacity.ensures)
 
 pub returns-clause-found : goal.returns-clause-found
 returns-clause-found c =
@@ -66,7 +67,8 @@ returns-clause-found c =
     let body : List ℕ = c.args.body.now in
     subst (λ (r : SwitchedReply). IsBodyOf set body (reply_message r)) (sym c.from_polys.ensures)
     (reply_of_polys set body c.q1_bits.result c.entries.result (16 + c.entries.result * c.len.result) c.q1_bits.ensures.value c.entries.ensures.value
-    (middle (goal.at.returns-clause-found c).After-len) c.number_at-count.result c.number_at-length.result c.in-Some.rows.items c.in-Some-2.mask.items c.requires.known
+    (middle (goal.at.returns-clause-found c).After-len) c.number_at-count.result c.number_at-length.result c.in-Some.rows.items c.in-Some-2.mask.items
+    c.requires
     (bytes_below body c.type_inv.body) (omega (arith, c.if-body-reply_len.false, c.reply_len.ensures))
     c.number_at-count.ensures (omega (arith, c.if-count-max_records.false, c.max_records.ensures))
     c.number_at-length.ensures (omega (arith, c.if-length-eq0.false)) (omega (arith, c.if-length-capacity.false, c.capacity.ensures))

@@ -31,7 +31,7 @@ returns-clause-found c =
     let body : List ℕ = c.args.body.now in
     let len : length body ≡ state_len c.args.set.now = omega (arith, c.if-body-state_len.false, c.state_len.ensures) in
     let low : c.number_at-index.result < max_records c.args.set.now = omega (arith, c.if-index-max_records.false, c.max_records.ensures) in
-    state_from_parts c.args.set.now body c.number_at-index.result c.in-Some.secret.items c.requires.known (bytes_below body c.type_inv.body) len
+    state_from_parts c.args.set.now body c.number_at-index.result c.in-Some.secret.items c.requires (bytes_below body c.type_inv.body) len
     c.number_at-index.ensures low
     (MatchOption-at_some _ _ c.in-Some.secret c.in-Some.is c.in_ok-secret.ensures.ternary)
     (MatchOption-at_some _ _ c.in-Some.secret c.in-Some.is c.in_ok-secret.ensures.spelled ∙ take_rest body 8)

@@ -1,5 +1,0 @@
-use Rattle.frame_headers.proofs.HeaderReading.{Unnamed}
-use Rattle.frame_headers.proofs.header.handled_set.Given as goal
-
-abbrev pub invariant-loop-i : goal.invariant-loop-i
-invariant-loop-i l = Unnamed l.name l.i
