@@ -71,6 +71,13 @@ impl Gsw {
         })
     }
 
+    /// The GSW ciphertext with these columns, which are in product form already.
+    pub fn from_forms(columns: Vec<CipherT>) -> Gsw
+        ensures { result ≡ columns.items }
+    {
+        Gsw { columns }
+    }
+
     /// Column (r, k), for a row r from 0 to m and a digit k below t.
     pub fn column(&self, set: &ParamSet, r: u32, k: u32) -> &CipherT
         requires known { IsSet set.now }

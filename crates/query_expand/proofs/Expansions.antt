@@ -7,7 +7,7 @@ use Rattle.std.proofs.lemmas.List.Elements.{All-nil, All-append, All-push, All-s
 use Rattle.negacyclic.proofs.Lists.{pushed_more}
 use Rattle.spiral_sets.specs.declared.param_set.ParamSet.{ParamSet}
 use Rattle.spiral_sets.specs.Sets.{digit_count, rows}
-use Rattle.spiral_sets.specs.Counts.{firsts_count}
+use Rattle.spiral_sets.specs.Counts.{firsts_count, gsw_count}
 use Rattle.spiral_model.specs.Words.{Cipher, Gsw, cipher_at}
 use Rattle.spiral_model.specs.KeySwitching.{DigitKey}
 use Rattle.spiral_model.specs.Keys.{SetKeys}
@@ -144,6 +144,15 @@ part_is set keys ciphers bits l start len digits columns gsw count place size cu
     same ∙ worked
     ∙ ap (translated set keys) (cut ∙ ap (λ (n : ℕ). take n (drop start ciphers)) size ∙ ap (λ (p : ℕ). take digits (drop p ciphers)) place)
     ∙ ap (λ (t : ℕ). translated set keys (take t (drop (l * t) ciphers))) count
+
+-- columns of the right number and shape are a GSW ciphertext
+pub is_gsw : (N : ℕ) (set : ParamSet) (columns gsw : Gsw) → N ≡ set.degree → gsw ≡ columns → length columns ≡ gsw_count set → All (HasShape N (rows set + 1)) columns
+    → IsGsw set gsw
+is_gsw N set columns gsw degree same many shapes = record {
+  count = ap length same ∙ many;
+  shapes =
+      All-same (HasShape set.degree (rows set + 1)) gsw columns same (subst (λ (n : ℕ). All (HasShape n (rows set + 1)) columns) degree shapes);
+}
 
 -- What the loop over the selections keeps.
 pub record TranslatesEach (set : ParamSet) (keys : SetKeys) (ciphers : List Cipher) (l : ℕ) (gsws : List Gsw) (scratch : ParamSet) : Type 0 where

@@ -177,7 +177,7 @@ fn translate_each(
         let start = l * digits;
         let bits = &ciphers[start..start + digits];
         let columns = translate(alloc, ring, set, bits, keys, scratch)?;
-        gsws.push(Gsw::from_columns(alloc, ring, set, &columns)?)?;
+        gsws.push(Gsw::from_forms(columns))?;
     }
     Ok(gsws)
 }

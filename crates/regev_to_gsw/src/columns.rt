@@ -1,14 +1,15 @@
 ghost use Rattle.std.specs.Prelude.{true, false, ◌≡◌, ◌<◌, ◌≤◌, ◌+◌, All, IfOk};
 ghost use Rattle.spiral_sets.specs.Sets.{IsSet, rows};
+ghost use Rattle.spiral_model.specs.Words.{row_of};
 ghost use Rattle.spiral_model.specs.KeySwitching.{lifted};
 ghost use Rattle.spiral_model.specs.Packing.{conversion_key as conversion_key_of, lift_row as lift_row_of, translated_column};
 ghost use Rattle.regev_code.specs.Products.{HasShape};
 ghost use Rattle.regev_code.specs.KeyShapes.{IsKeyOf};
 
 use no_memory::NoMemory;
-use regev_code::{Cipher, EvalKeys, Scratch, SwitchKey, switch_key};
-use ring_poly::Ring;
-use spiral_pack::lift_into;
+use regev_code::{Cipher, CipherT, EvalKeys, Scratch, SwitchKey, form_of, switch_form};
+use ring_poly::{PolyT, Ring};
+use spiral_pack::lift_form_into;
 use spiral_sets::ParamSet;
 use std::alloc::Global;
 
@@ -24,11 +25,29 @@ fn conversion_key(keys: &EvalKeys) -> &SwitchKey
     }
 }
 
-/// A scalar ciphertext with its phase times -s_i in each row i: c_1 in row 0, plus the digit sum of c_0 with the conversion
-/// key. It takes no memory.
-fn convert_into(ring: &Ring, c: &Cipher, key: &SwitchKey, out: &mut Cipher, scratch: &mut Scratch)
+/// Row 1 of a scalar ciphertext in product form.
+fn high_form(alloc: Global, ring: &Ring, c: &Cipher) -> Result<PolyT, NoMemory>
+    requires { HasShape ring.now 2 c.now }
+    ensures { IfOk result (λ high. high ≡ row_of c.now 1) }
+{
+    let mut high = PolyT::zero(alloc, ring.degree())?;
+    ring.to_product(c.row(1), &mut high);
+    Ok(high)
+}
+
+/// A scalar ciphertext with its phase times -s_i in each row i, in product form, with c_1 in that form: c_1 in row 0, plus the digit
+/// sum of c_0 with the conversion key. It takes no memory.
+fn convert_into(
+    ring: &Ring,
+    c: &Cipher,
+    high: &PolyT,
+    key: &SwitchKey,
+    out: &mut CipherT,
+    scratch: &mut Scratch,
+)
     requires ring { ring.now ≡ scratch.old.degree }
     requires c { HasShape ring.now 2 c.now }
+    requires high { high.now ≡ row_of c.now 1 }
     requires key { IsKeyOf scratch.old (rows scratch.old) key.now }
     requires out { HasShape ring.now (rows scratch.old + 1) out.old }
     ensures value { out.new ≡ lifted ring.now (rows scratch.old) 0 key.now c.now }
@@ -37,32 +56,8 @@ fn convert_into(ring: &Ring, c: &Cipher, key: &SwitchKey, out: &mut Cipher, scra
 {
     let set = scratch.set;
     let m = set.rows();
-    let (low, high) = (c.row(0), c.row(1));
-    if set.pack {
-        switch_key(
-            ring,
-            m,
-            0,
-            key,
-            high,
-            low,
-            out,
-            &mut scratch.scalar,
-            &mut scratch.room,
-        );
-    } else {
-        switch_key(
-            ring,
-            m,
-            0,
-            key,
-            high,
-            low,
-            out,
-            &mut scratch.matrix,
-            &mut scratch.room,
-        );
-    }
+    let room = &mut scratch.room;
+    switch_form(ring, m, 0, key, high, c.row(0), out, room);
 }
 
 /// A column of row 0, in memory of its own.
@@ -73,7 +68,7 @@ fn converted(
     c: &Cipher,
     keys: &EvalKeys,
     scratch: &mut Scratch,
-) -> Result<Cipher, NoMemory>
+) -> Result<CipherT, NoMemory>
     requires known { IsSet set.now }
     requires expanding { set.now.direct ≡ false }
     requires ring { ring.now ≡ set.now.degree }
@@ -84,8 +79,9 @@ fn converted(
     ensures shape { IfOk result (λ column. HasShape ring.now (rows set.now + 1) column) }
     ensures scratch { scratch.new ≡ scratch.old }
 {
-    let mut out = Cipher::zero(alloc, set, set.rows())?;
-    convert_into(ring, c, conversion_key(keys), &mut out, scratch);
+    let high = high_form(alloc, ring, c)?;
+    let mut out = CipherT::zero(alloc, set, set.rows())?;
+    convert_into(ring, c, &high, conversion_key(keys), &mut out, scratch);
     Ok(out)
 }
 
@@ -98,7 +94,7 @@ fn lifted_into_row(
     c: &Cipher,
     keys: &EvalKeys,
     scratch: &mut Scratch,
-) -> Result<Cipher, NoMemory>
+) -> Result<CipherT, NoMemory>
     requires known { IsSet set.now }
     requires ring { ring.now ≡ set.now.degree }
     requires scratch { scratch.old ≡ set.now }
@@ -110,23 +106,13 @@ fn lifted_into_row(
     ensures shape { IfOk result (λ column. HasShape ring.now (set.now.n + 1) column) }
     ensures scratch { scratch.new ≡ scratch.old }
 {
-    let mut out = Cipher::zero(alloc, set, set.n)?;
-    lift_into(ring, r, c, keys, &mut out, scratch);
+    let high = high_form(alloc, ring, c)?;
+    let mut out = CipherT::zero(alloc, set, set.n)?;
+    lift_form_into(ring, r, c, &high, keys, &mut out, scratch);
     Ok(out)
 }
 
-/// The same ciphertext, in memory of its own.
-fn copy(alloc: Global, c: &Cipher) -> Result<Cipher, NoMemory>
-    ensures { IfOk result (λ copy. copy ≡ c.now) }
-{
-    let mut rows = Vec::new(alloc);
-    for row in &c.polys {
-        rows.push(row.copy()?)?;
-    }
-    Ok(Cipher::from_rows(rows))
-}
-
-/// The column of row r for a digit, from the scalar ciphertext of the bit times that digit's power: converted for r = 0, else
+/// The column of row r for a digit, in product form, from the scalar ciphertext of the bit times that digit's power: converted for r = 0, else
 /// lifted into row r, or the ciphertext itself where the set packs.
 pub(crate) fn column(
     alloc: Global,
@@ -136,7 +122,7 @@ pub(crate) fn column(
     c: &Cipher,
     keys: &EvalKeys,
     scratch: &mut Scratch,
-) -> Result<Cipher, NoMemory>
+) -> Result<CipherT, NoMemory>
     requires known { IsSet set.now }
     requires expanding { set.now.direct ≡ false }
     requires ring { ring.now ≡ set.now.degree }
@@ -151,7 +137,7 @@ pub(crate) fn column(
     if r == 0 {
         Ok(converted(alloc, ring, set, c, keys, scratch)?)
     } else if set.pack {
-        Ok(copy(alloc, c)?)
+        Ok(form_of(alloc, ring, c)?)
     } else {
         Ok(lifted_into_row(alloc, ring, set, r, c, keys, scratch)?)
     }

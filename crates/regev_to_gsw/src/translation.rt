@@ -6,12 +6,12 @@ ghost use Rattle.regev_code.specs.Products.{HasShape};
 
 use crate::columns::column;
 use no_memory::NoMemory;
-use regev_code::{Cipher, EvalKeys, Scratch};
+use regev_code::{Cipher, CipherT, EvalKeys, Scratch};
 use ring_poly::Ring;
 use spiral_sets::{ParamSet, digit_count};
 use std::alloc::Global;
 
-/// Translation: the columns of the GSW ciphertext of a bit, from the t scalar ciphertexts of its digits, of which number k
+/// Translation: the columns of the GSW ciphertext of a bit, in product form, from the t scalar ciphertexts of its digits, of which number k
 /// encrypts bit 2^(w k). Column (r, k), by r from 0 to m, within r by k, is for r = 0 ciphertext k with its phase times -s_i in
 /// each row i, by the conversion key; for r from 1 on it is ciphertext k lifted into row r, or itself where the set packs. An error
 /// says that memory was wanting.
@@ -22,7 +22,7 @@ pub fn translate(
     bits: &[Cipher],
     keys: &EvalKeys,
     scratch: &mut Scratch,
-) -> Result<Vec<Cipher>, NoMemory>
+) -> Result<Vec<CipherT>, NoMemory>
     requires known { IsSet set.now }
     requires expanding { set.now.direct ≡ false }
     requires ring { ring.now ≡ set.now.degree }

@@ -23,39 +23,39 @@ lifted_is set N r lift key c out degree is worked =
 
 -- ---- all rows
 
--- What the loop over the rows keeps: the lifts into the first rows, room for one more, and the set of the scratch.
-pub record Lifts (N : ℕ) (set : ParamSet) (keys : SetKeys) (c : Cipher) (i : ℕ) (columns : List Cipher) (room : Cipher) (scratch : ParamSet) : Type 0 where
+-- What the loop over the rows keeps: the lifts into the first rows, and the set of the scratch.
+pub record Lifts (N : ℕ) (set : ParamSet) (keys : SetKeys) (c : Cipher) (i : ℕ) (columns : List Cipher) (scratch : ParamSet) : Type 0 where
   pub so_far : columns ≡ map (lift_row set keys.lift c) (range_with_len 1 i)
   pub shapes : All (HasShape N (set.n + 1)) columns
-  pub room_shape : HasShape N (set.n + 1) room
   pub kept : scratch ≡ set
 
 -- none so far
-pub lifts_none : (N : ℕ) (set seen : ParamSet) (keys : SetKeys) (c room : Cipher) (columns : List Cipher) → N ≡ set.degree → seen ≡ set → columns ≡ []
-    → room ≡ replicate (seen.n + 1) (replicate {A = ℕ} seen.degree 0) → Lifts N set keys c 0 columns room set
-lifts_none N set seen keys c room columns degree same none zeros = record {
+pub lifts_none : (N : ℕ) (set : ParamSet) (keys : SetKeys) (c : Cipher) (columns : List Cipher) → columns ≡ [] → Lifts N set keys c 0 columns set
+lifts_none N set keys c columns none = record {
   so_far = none;
   shapes = All-same (HasShape N (set.n + 1)) columns [] none (All-nil (HasShape N (set.n + 1)));
-  room_shape =
-      subst (λ (n : ℕ). HasShape n (set.n + 1) room) (sym degree)
-      (subst (λ (s : ParamSet). HasShape s.degree (s.n + 1) room) same (zeros_shape seen.degree (seen.n + 1) room zeros));
   kept = refl;
 }
 
+-- rows of zeros for the next one
+pub lift_room : (N : ℕ) (set seen scratch : ParamSet) (room : Cipher) → N ≡ set.degree → seen ≡ set → scratch ≡ set
+    → room ≡ replicate (seen.n + 1) (replicate {A = ℕ} seen.degree 0) → HasShape N (scratch.n + 1) room
+lift_room N set seen scratch room degree same kept zeros =
+    subst (λ (s : ParamSet). HasShape N (s.n + 1) room) (sym kept)
+    (subst (λ (n : ℕ). HasShape n (set.n + 1) room) (sym degree)
+    (subst (λ (s : ParamSet). HasShape s.degree (s.n + 1) room) same (zeros_shape seen.degree (seen.n + 1) room zeros)))
+
 -- one more
-pub lifts_more : (N : ℕ) (set : ParamSet) (keys : SetKeys) (c : Cipher) (i : ℕ) (columns new : List Cipher) (room next column : Cipher)
-    (scratch after : ParamSet) → Lifts N set keys c i columns room scratch → next ≡ lift_row scratch keys.lift c (i + 1)
-    → HasShape N (scratch.n + 1) next → after ≡ scratch → column ≡ next → new ≡ columns ++ column ∷ [] → Lifts N set keys c (i + 1) new next after
-lifts_more N set keys c i columns new room next column scratch after lifts worked shape kept form pushed =
+pub lifts_more : (N : ℕ) (set : ParamSet) (keys : SetKeys) (c : Cipher) (i : ℕ) (columns new : List Cipher) (next : Cipher) (scratch after : ParamSet)
+    → Lifts N set keys c i columns scratch → next ≡ lift_row scratch keys.lift c (i + 1) → HasShape N (scratch.n + 1) next → after ≡ scratch
+    → new ≡ columns ++ next ∷ [] → Lifts N set keys c (i + 1) new after
+lifts_more N set keys c i columns new next scratch after lifts worked shape kept pushed =
     let here : HasShape N (set.n + 1) next = subst (λ (s : ParamSet). HasShape N (s.n + 1) next) lifts.kept shape in
     record {
       so_far =
-          pushed_more (lift_row set keys.lift c) 1 i (i + 1) columns new column (omega arith) lifts.so_far pushed
-          (form ∙ worked ∙ ap (λ (s : ParamSet). lift_row s keys.lift c (i + 1)) lifts.kept);
-      shapes =
-          All-same (HasShape N (set.n + 1)) new (columns ++ column ∷ []) pushed
-          (All-push (HasShape N (set.n + 1)) columns column lifts.shapes (subst (HasShape N (set.n + 1)) (sym form) here));
-      room_shape = here;
+          pushed_more (lift_row set keys.lift c) 1 i (i + 1) columns new next (omega arith) lifts.so_far pushed
+          (worked ∙ ap (λ (s : ParamSet). lift_row s keys.lift c (i + 1)) lifts.kept);
+      shapes = All-same (HasShape N (set.n + 1)) new (columns ++ next ∷ []) pushed (All-push (HasShape N (set.n + 1)) columns next lifts.shapes here);
       kept = kept ∙ lifts.kept;
     }
 

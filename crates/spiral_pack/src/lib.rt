@@ -4,5 +4,5 @@
 mod lift;
 mod packing;
 
-pub use lift::{lift_into, lift_key, lift_matrix};
+pub use lift::{lift_form_into, lift_into, lift_key, lift_matrix};
 pub use packing::pack;

@@ -1,12 +1,13 @@
 ghost use Rattle.std.specs.Prelude.{true, ◌≡◌, ◌+◌, ◌-◌, ◌≤◌, All, IfOk};
+ghost use Rattle.spiral_model.specs.Words.{row_of};
 ghost use Rattle.spiral_model.specs.Keys.{key_at};
 ghost use Rattle.spiral_model.specs.Packing.{lift_row as lift_row_of, lift_matrix as lift_matrix_of};
 ghost use Rattle.regev_code.specs.Products.{HasShape};
 ghost use Rattle.regev_code.specs.KeyShapes.{IsKeyOf};
 
 use no_memory::NoMemory;
-use regev_code::{Cipher, CipherT, EvalKeys, Scratch, SwitchKey, form_of, lift_row};
-use ring_poly::Ring;
+use regev_code::{Cipher, CipherT, EvalKeys, Scratch, SwitchKey, lift_form, lift_row};
+use ring_poly::{PolyT, Ring};
 use std::alloc::Global;
 
 /// The lift key of row r, counted from 1.
@@ -43,8 +44,33 @@ pub fn lift_into(
     lift_row(ring, r, c, key, out, scratch);
 }
 
+/// `lift_into` in product form, with c_1 in that form. It takes no memory.
+pub fn lift_form_into(
+    ring: &Ring,
+    r: u32,
+    c: &Cipher,
+    high: &PolyT,
+    keys: &EvalKeys,
+    out: &mut CipherT,
+    scratch: &mut Scratch,
+)
+    requires ring { ring.now ≡ scratch.old.degree }
+    requires set { keys.now.set ≡ scratch.old }
+    requires first { 1 ≤ r }
+    requires last { r ≤ scratch.old.n }
+    requires c { HasShape ring.now 2 c.now }
+    requires high { high.now ≡ row_of c.now 1 }
+    requires out { HasShape ring.now (scratch.old.n + 1) out.old }
+    ensures value { out.new ≡ lift_row_of scratch.old keys.now.lift c.now r }
+    ensures shape { HasShape ring.now (scratch.old.n + 1) out.new }
+    ensures scratch { scratch.new ≡ scratch.old }
+{
+    let key = lift_key(keys, r);
+    lift_form(ring, r, c, high, key, out, scratch);
+}
+
 /// The lifts of a scalar ciphertext into rows 1 to n, each with that row's lift key, in product form: the columns of its
-/// first-dimension matrix. An error says that memory was wanting.
+/// first-dimension matrix. They stay in that form from the start. An error says that memory was wanting.
 pub fn lift_matrix(
     alloc: Global,
     ring: &Ring,
@@ -60,11 +86,13 @@ pub fn lift_matrix(
     ensures scratch { scratch.new ≡ scratch.old }
 {
     let set = keys.set;
-    let mut lifted = Cipher::zero(alloc, &set, set.n)?;
+    let mut high = PolyT::zero(alloc, ring.degree())?;
+    ring.to_product(c.row(1), &mut high);
     let mut columns = Vec::new(alloc);
     for i in 0..set.n {
-        lift_into(ring, i + 1, c, keys, &mut lifted, scratch);
-        columns.push(form_of(alloc, ring, &lifted)?)?;
+        let mut lifted = CipherT::zero(alloc, &set, set.n)?;
+        lift_form_into(ring, i + 1, c, &high, keys, &mut lifted, scratch);
+        columns.push(lifted)?;
     }
     Ok(columns)
 }

@@ -2,6 +2,7 @@
 use Rattle.std.proofs.Common.{ℕ, List, ◌≡◌, ◌+◌, ◌∙◌, All, ap, sym, subst}
 use Rattle.std.proofs.lemmas.List.Elements.{All-same}
 use Rattle.spiral_sets.specs.declared.param_set.ParamSet.{ParamSet}
+use Rattle.spiral_sets.specs.Sets.{rows}
 use Rattle.spiral_model.specs.Words.{Cipher}
 use Rattle.spiral_model.specs.Bodies.{CipherBody}
 use Rattle.spiral_model.specs.Keys.{SetKeys, keys_in}
@@ -21,3 +22,8 @@ scalars_of N cs ds degree same shapes = All-same (HasShape N 2) ds cs same (subs
 pub matrices_of : (N : ℕ) (s : ParamSet) (cs : List Cipher) → N ≡ 256 → s ≡ tiny_pack → All (HasShape N (s.n + 1)) cs → All (HasShape 256 3) cs
 matrices_of N s cs degree set shapes =
     subst (λ (n : ℕ). All (HasShape n 3) cs) degree (subst (λ (t : ParamSet). All (HasShape N (t.n + 1)) cs) set shapes)
+
+-- columns of rows 0 to m, likewise
+pub columns_of : (N : ℕ) (s : ParamSet) (cs : List Cipher) → N ≡ 256 → s ≡ tiny_pack → All (HasShape N (rows s + 1)) cs → All (HasShape 256 2) cs
+columns_of N s cs degree set shapes =
+    subst (λ (n : ℕ). All (HasShape n 2) cs) degree (subst (λ (t : ParamSet). All (HasShape N (rows t + 1)) cs) set shapes)

@@ -6,7 +6,7 @@ use crate::fixtures::{
     Rows, ScalarRows, expect_ciphers, expect_form, expect_scalars, scalar, scalars,
 };
 use crate::keys::{keys, pack_set};
-use regev_code::{Cipher, CipherT, Scratch};
+use regev_code::{Cipher, CipherT, Scratch, from_form};
 use regev_to_gsw::translate;
 use ring_poly::{Q, Ring};
 use spiral_pack::{lift_matrix, pack};
@@ -84,8 +84,10 @@ const COLUMNS: [(usize, ScalarRows); 6] = [
     (15, [&[], &[(2, 5)]]),
 ];
 
-/// The GSW ciphertext of those digits.
-fn translated(rt: &impl Abort, alloc: Global) -> Result<Vec<Cipher>, Fail> {
+/// The columns of the GSW ciphertext of those digits.
+fn translated(rt: &impl Abort, alloc: Global) -> Result<Vec<CipherT>, Fail>
+    ensures { IfOk result (λ columns. All (HasShape 256 2) columns.items) }
+{
     let set = pack_set(rt);
     let ring = Ring::new(alloc, 256)?;
     let keys = keys(rt, alloc, &ring)?;
@@ -95,11 +97,25 @@ fn translated(rt: &impl Abort, alloc: Global) -> Result<Vec<Cipher>, Fail> {
     Ok(translate(alloc, &ring, &set, &bits, &keys, &mut scratch)?)
 }
 
+/// The scalar ciphertexts, brought back from product form.
+fn brought_back(rt: &impl Abort, alloc: Global, columns: &[CipherT]) -> Result<Vec<Cipher>, Fail>
+    requires { All (HasShape 256 2) columns.now }
+{
+    let ring = Ring::new(alloc, 256)?;
+    let mut back = Vec::new(alloc);
+    for column in columns {
+        let mut c = scalar(rt, alloc, NONE)?;
+        from_form(&ring, column, &mut c);
+        back.push(c)?;
+    }
+    Ok(back)
+}
+
 #[test]
 fn digits_are_translated(rt: HostRuntime) -> Result<(), Fail> {
     let alloc = rt.alloc();
     let columns = translated(&rt, alloc)?;
     assert_eq!(rt; columns.len(), 16);
-    expect_scalars(&rt, alloc, &columns, &COLUMNS)?;
+    expect_scalars(&rt, alloc, &brought_back(&rt, alloc, &columns)?, &COLUMNS)?;
     Ok(())
 }

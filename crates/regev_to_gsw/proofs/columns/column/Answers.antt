@@ -5,9 +5,9 @@ pub returns-in_ok-converted-clause-value : goal.returns-in_ok-converted-clause-v
 returns-in_ok-converted-clause-value c =
     column-converted c.args.set.now c.args.keys.now c.args.c.now c.in_ok-converted.field-0 c.args.r c.if-r-eq0.true c.in_ok-converted.ensures.value
 
-pub returns-in_ok-copy-clause-value : goal.returns-in_ok-copy-clause-value
-returns-in_ok-copy-clause-value c =
-    column-same c.args.set.now c.args.keys.now c.args.c.now c.in_ok-copy.field-0 c.args.r c.if-r-eq0.false c.if-set.true c.in_ok-copy.ensures
+pub returns-in_ok-form_of-clause-value : goal.returns-in_ok-form_of-clause-value
+returns-in_ok-form_of-clause-value c =
+    column-same c.args.set.now c.args.keys.now c.args.c.now c.in_ok-form_of.field-0 c.args.r c.if-r-eq0.false c.if-set.true c.in_ok-form_of.ensures
 
 pub returns-in_ok-lifted_into_row-clause-value : goal.returns-in_ok-lifted_into_row-clause-value
 returns-in_ok-lifted_into_row-clause-value c =
