@@ -16,3 +16,5 @@ mod names;
 mod packing;
 #[cfg(test)]
 mod records;
+#[cfg(test)]
+mod streams;

@@ -1,3 +1,4 @@
 pub mod LeftToRead
 pub mod ReadingFront
 pub mod Kept
+pub mod WrittenParts

@@ -10,5 +10,9 @@ pub mod Contents
 pub mod MemFiles
 pub mod Host
 pub mod NetPlan
+pub mod Sessions
 pub mod SoundNet
+pub mod PlannedCalls
+pub mod MemLink
+pub mod MemNet
 pub mod Reading

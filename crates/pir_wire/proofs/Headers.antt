@@ -15,7 +15,8 @@ use Rattle.spiral_sets.proofs.SetNames.{state_len-most, reply_len-most}
 use Rattle.frame_headers.specs.declared.kind.FrameKind.{FrameKind}
 use Rattle.frame_headers.specs.declared.kind.FrameKind.TheVariants.{Setup, Query, Reply, Refuse, State, Database}
 use Rattle.frame_headers.specs.Kinds.{body_len_of}
-use Rattle.pir_wire.specs.Headers.{header_of, BeginsWith, HasOtherFront}
+use Rattle.frame_streams.specs.Heads.{header_of}
+use Rattle.pir_wire.specs.Headers.{BeginsWith, HasOtherFront}
 
 -- ---- the length of a body
 

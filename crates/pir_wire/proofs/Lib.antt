@@ -6,3 +6,9 @@ pub mod Replies
 pub mod Queries
 pub mod Setups
 pub mod WholeFrames
+pub mod Feeds
+pub mod CipherParts
+pub mod CipherSteps
+pub mod BodyParts
+pub mod ReplyParts
+pub mod OneFrames

@@ -1,17 +1,17 @@
 -- Frames from the pieces that they are written in.
-use Rattle.std.proofs.Common.{◌≡◌, ◌<◌, ◌+◌, ℕ, List, [], ◌∷◌, ◌++◌, length, map, take, sym, ap, ◌∙◌, append-nil}
+use Rattle.std.proofs.Common.{◌≡◌, ◌<◌, ◌+◌, ℕ, List, [], ◌∷◌, ◌++◌, length, map, take, refl, sym, ap, ◌∙◌, append-nil, arith}
 use Rattle.std.specs.Int.{to_le_bytes, w64}
 use Rattle.std.specs.List.{flat_map}
 use Rattle.std.proofs.lemmas.List.{append_assoc, take_more}
 use Rattle.std.proofs.lemmas.Grind.{flat_map-append}
-use Rattle.negacyclic.proofs.Digits.{to_le_bytes-digits}
+use Rattle.negacyclic.proofs.Digits.{to_le_bytes-digits, length-digits}
 use Rattle.spiral_sets.specs.Sets.{q1_bits}
 use Rattle.spiral_sets.specs.Counts.{state_len, reply_len}
 use Rattle.frame_headers.specs.Headers.{header, number}
 use Rattle.spiral_model.specs.Words.{Poly, poly_of}
 use Rattle.spiral_model.specs.Replies.{QueryState, SwitchedReply}
-use Rattle.spiral_frames.specs.Frames.{secret_byte, packed, state_body, reply_body, frame_of, state_message, reply_message, IsMessage}
-use Rattle.spiral_frames.proofs.FrameLaws.{state_frame_is, reply_frame_is}
+use Rattle.spiral_frames.specs.Frames.{PeerRefusal, secret_byte, packed, state_body, reply_body, refuse_body, frame_of, state_message, reply_message, refuse_message, IsMessage}
+use Rattle.spiral_frames.proofs.FrameLaws.{frame_is, state_frame_is, reply_frame_is}
 
 -- 8 bytes of a number
 eight_bytes : (x y : ℕ) (bytes : List ℕ) → bytes ≡ to_le_bytes w64 x → x ≡ y → bytes ≡ number 8 y
@@ -27,6 +27,20 @@ state_spelled state index o1 o2 o3 tail is e1 et ei e2 e3 =
     let eight : tail ≡ number 8 state.index = eight_bytes index state.index tail et ei in
     rw (e3, e2, e1, eight) (append_assoc (header 5 state.set (state_len state.set)) (number 8 state.index) (map secret_byte state.secret))
     ∙ sym (state_frame_is state is)
+
+-- the body of a refusal has a byte and 8
+pub length-refuse_body : (refusal : PeerRefusal) → length (refuse_body refusal) ≡ 9
+unfolding refuse_body
+length-refuse_body refusal = omega (arith, length-digits 256 8 refusal.place)
+
+-- the frame of a refusal
+pub refuse_spelled : (refusal : PeerRefusal) (o1 o2 o3 tail : List ℕ) → o1 ≡ header 4 refusal.set 9 → o2 ≡ o1 ++ refusal.code ∷ [] → tail ≡ to_le_bytes w64 refusal.place
+    → o3 ≡ o2 ++ tail → o3 ≡ frame_of (refuse_message refusal)
+unfolding refuse_body
+refuse_spelled refusal o1 o2 o3 tail e1 e2 et e3 =
+    let eight : tail ≡ number 8 refusal.place = eight_bytes refusal.place refusal.place tail et refl in
+    rw (e3, e2, e1, eight) (append_assoc (header 4 refusal.set 9) (refusal.code ∷ []) (number 8 refusal.place))
+    ∙ sym (frame_is (refuse_message refusal) 9 (length-refuse_body refusal))
 
 -- the frame of a reply
 pub reply_spelled : (reply : SwitchedReply) (count record_length : ℕ) (o1 o2 o3 o4 o5 b1 b2 : List ℕ) → IsMessage (reply_message reply)

@@ -14,7 +14,8 @@ use Rattle.spiral_frames.specs.Frames.{Message, PeerRefusal, setup_message, quer
 use Rattle.spiral_frames.proofs.FrameLaws.{frame_is, known_of, length-frame, only_front}
 use Rattle.spiral_frames.proofs.Bodies.{length-query_body, length-state_body, length-reply_body}
 use Rattle.spiral_frames.proofs.SetupBodies.{length-setup_body}
-use Rattle.pir_wire.specs.Headers.{header_of, frame_len_of, BeginsWith, HasOtherFront}
+use Rattle.frame_streams.specs.Heads.{header_of}
+use Rattle.pir_wire.specs.Headers.{frame_len_of, BeginsWith, HasOtherFront}
 use Rattle.pir_wire.specs.Bodies.{IsBodyOf, HasOneLength}
 
 -- what a call says where it found nothing, said in other words

@@ -3,12 +3,8 @@ use Rattle.std.specs.Prelude.{ℕ, List, ◌+◌, ◌++◌, ◌≡◌, ◌≤◌
 use Rattle.spiral_sets.specs.declared.param_set.ParamSet.{ParamSet}
 use Rattle.spiral_sets.specs.Sets.{IsSet}
 use Rattle.frame_headers.specs.declared.kind.FrameKind.{FrameKind}
-use Rattle.frame_headers.specs.Kinds.{code_of_kind, body_len_of}
-use Rattle.frame_headers.specs.Headers.{header}
-
--- the header of a frame of that kind and set
-abbrev pub header_of : FrameKind → ParamSet → List ℕ
-header_of kind set = header (code_of_kind kind) set (body_len_of kind set)
+use Rattle.frame_headers.specs.Kinds.{body_len_of}
+use Rattle.frame_streams.specs.Heads.{header_of}
 
 -- how many bytes such a frame has
 abbrev pub frame_len_of : FrameKind → ParamSet → ℕ

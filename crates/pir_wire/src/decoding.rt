@@ -19,6 +19,8 @@ mod state;
 
 use header::read_header;
 pub use header::reading_limit;
+pub(crate) use query::rows_below;
+pub(crate) use setup::{lifts_count, rounds_count};
 
 /// What the frames of one kind carry, as it is read from them.
 pub trait FramedMessage: Sized {

@@ -1,6 +1,7 @@
 ghost use Rattle.std.specs.Prelude.{◌≡◌, ◌++◌, map, replicate, All, IfOk};
+ghost use Rattle.spiral_sets.specs.Sets.{IsSet};
 ghost use Rattle.spiral_model.specs.Replies.{IsTernary};
-ghost use Rattle.spiral_frames.specs.Frames.{IsMessage, Spell, setup_message, query_message, reply_message, state_message, secret_byte as secret_byte_of};
+ghost use Rattle.spiral_frames.specs.Frames.{IsMessage, Spell, setup_message, query_message, reply_message, refuse_message, state_message, secret_byte as secret_byte_of};
 
 use crate::header::begin_frame;
 use crate::reply::{push_body, push_mask};
@@ -9,6 +10,7 @@ use frame_headers::FrameKind;
 use modulus_switch::{ClientState, Reply};
 use no_memory::NoMemory;
 use regev_code::{KeyBody, QueryBody};
+use spiral_sets::ParamSet;
 use std::alloc::Global;
 
 /// The byte of a number of a secret: the number plus 1.
@@ -80,5 +82,16 @@ pub fn encode_reply(alloc: Global, reply: &Reply) -> Result<Vec<u8>, NoMemory>
     out.extend_from_slice(&u64::from(reply.length()).to_le_bytes())?;
     push_body(&mut out, reply)?;
     push_mask(&mut out, reply)?;
+    Ok(out)
+}
+
+/// The Refuse frame of a server of that set: the code in a byte, and the place in 8.
+pub fn encode_refuse(alloc: Global, set: &ParamSet, code: u8, at: u64) -> Result<Vec<u8>, NoMemory>
+    requires { IsSet set.now }
+    ensures { IfOk result (λ bytes. Spell (refuse_message (record { set = set.now; code = code; place = at })) bytes.items) }
+{
+    let mut out = begin_frame(alloc, FrameKind::Refuse, set)?;
+    out.push(code)?;
+    out.extend_from_slice(&at.to_le_bytes())?;
     Ok(out)
 }

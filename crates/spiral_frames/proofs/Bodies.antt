@@ -107,14 +107,14 @@ state_body_is state body front back = sym (take-append-drop 8 body) ∙ rw (fron
 
 -- ---- the body of a Reply
 
-count_fits : (reply : SwitchedReply) → IsReply reply → reply.count < 256 ^ 8
+pub count_fits : (reply : SwitchedReply) → IsReply reply → reply.count < 256 ^ 8
 count_fits reply is =
     let sizes = set_sizes reply.set is.known in
     let low : reply.count ≤ max_records reply.set = is.count in
     let large : 4096 < 256 ^ 8 = lit< tt in
     omega arith
 
-record_length_fits : (reply : SwitchedReply) → IsReply reply → reply.record_length < 256 ^ 8
+pub record_length_fits : (reply : SwitchedReply) → IsReply reply → reply.record_length < 256 ^ 8
 record_length_fits reply is =
     let sizes = set_sizes reply.set is.known in
     let low : reply.record_length ≤ capacity reply.set = is.record_length in

@@ -22,7 +22,7 @@ use Rattle.frame_headers.proofs.Outcomes.{AllPass, all_pass, AllBefore, checked-
 
 -- ---- the checks look at the first bytes alone
 
-piece : (limit : ℕ) (x : List ℕ) (place count : ℕ) → place + count ≤ limit → take count (drop place (take limit x)) ≡ take count (drop place x)
+pub piece : (limit : ℕ) (x : List ℕ) (place count : ℕ) → place + count ≤ limit → take count (drop place (take limit x)) ≡ take count (drop place x)
 piece limit x place count fits =
     let room : limit ≡ place + (limit - place) = omega arith in
     let few : count ≤ limit - place = omega arith in
@@ -42,7 +42,7 @@ not_ending true error rest h = absurd (cc)
 not_ending false error rest h = h
 
 -- checks that are decided before a size never reach the end of an input so long
-decided_all : (checks : List Check) (limit size : ℕ) → limit ≤ size → AllBefore checks limit → checked checks size ≡ ends_before → ⊥
+pub decided_all : (checks : List Check) (limit size : ℕ) → limit ≤ size → AllBefore checks limit → checked checks size ≡ ends_before → ⊥
 unfolding checked
 decided_all [] limit size le before h = cc
 decided_all (check ∷ checks) limit size le before h =
@@ -130,18 +130,18 @@ module _ (limit : ℕ) (x : List ℕ) (whole : header_len_in x + 16 ≤ limit) w
 
 -- ---- what passes the checks
 
-not_false : (b : Bool) → not b ≡ false → b ≡ true
+pub not_false : (b : Bool) → not b ≡ false → b ≡ true
 not_false true h = refl
 not_false false h = absurd (cc)
 
-same_number : (a b : ℕ) → not (nat_eq a b) ≡ false → a ≡ b
+pub same_number : (a b : ℕ) → not (nat_eq a b) ≡ false → a ≡ b
 same_number a b h = eqb-true a b (not_false (nat_eq a b) h)
 
-neither : (a b : Bool) → (a || b) ≡ false → (a ≡ false) × (b ≡ false)
+pub neither : (a b : Bool) → (a || b) ≡ false → (a ≡ false) × (b ≡ false)
 neither true b h = absurd (cc)
 neither false b h = (refl, h)
 
-some_from_test : (a : ℕ) → nat_eq a 0 ≡ false → 0 < a
+pub some_from_test : (a : ℕ) → nat_eq a 0 ≡ false → 0 < a
 some_from_test a h = let no : a ≢ 0 = eqb-false a 0 h in omega arith
 
 -- the bytes begin with the header of a database of this set and with two numbers that suit its body length
@@ -195,7 +195,7 @@ module _ (x : List ℕ) (set : ParamSet) where
 
 -- ---- bytes that pass are the frame of a table
 
-seven : (x : List ℕ) (a0 a1 a2 a3 a4 a5 a6 : ℕ) → 7 ≤ length x → get_or x 0 0 ≡ a0 → get_or x 1 0 ≡ a1 → get_or x 2 0 ≡ a2 → get_or x 3 0 ≡ a3
+pub seven : (x : List ℕ) (a0 a1 a2 a3 a4 a5 a6 : ℕ) → 7 ≤ length x → get_or x 0 0 ≡ a0 → get_or x 1 0 ≡ a1 → get_or x 2 0 ≡ a2 → get_or x 3 0 ≡ a3
     → get_or x 4 0 ≡ a4 → get_or x 5 0 ≡ a5 → get_or x 6 0 ≡ a6 → x ≡ a0 ∷ a1 ∷ a2 ∷ a3 ∷ a4 ∷ a5 ∷ a6 ∷ drop 7 x
 seven (c0 ∷ c1 ∷ c2 ∷ c3 ∷ c4 ∷ c5 ∷ c6 ∷ rest) a0 a1 a2 a3 a4 a5 a6 long e0 e1 e2 e3 e4 e5 e6 = cc
 seven (c0 ∷ c1 ∷ c2 ∷ c3 ∷ c4 ∷ c5 ∷ []) a0 a1 a2 a3 a4 a5 a6 long e0 e1 e2 e3 e4 e5 e6 = absurd (omega arith)
@@ -206,12 +206,12 @@ seven (c0 ∷ c1 ∷ []) a0 a1 a2 a3 a4 a5 a6 long e0 e1 e2 e3 e4 e5 e6 = absurd
 seven (c0 ∷ []) a0 a1 a2 a3 a4 a5 a6 long e0 e1 e2 e3 e4 e5 e6 = absurd (omega arith)
 seven [] a0 a1 a2 a3 a4 a5 a6 long e0 e1 e2 e3 e4 e5 e6 = absurd (omega arith)
 
-cut : (x : List ℕ) (place count next : ℕ) → place + count ≡ next → drop place x ≡ take count (drop place x) ++ drop next x
+pub cut : (x : List ℕ) (place count next : ℕ) → place + count ≡ next → drop place x ≡ take count (drop place x) ++ drop next x
 cut x place count next e =
     sym (take-append-drop count (drop place x))
     ∙ ap (λ (rest : List ℕ). take count (drop place x) ++ rest) (drop-drop count place x ∙ ap (λ (k : ℕ). drop k x) e)
 
-number_there : (x : List ℕ) (place : ℕ) → All (λ b. b < 256) x → place + 8 ≤ length x → take 8 (drop place x) ≡ number 8 (number_at x place)
+pub number_there : (x : List ℕ) (place : ℕ) → All (λ b. b < 256) x → place + 8 ≤ length x → take 8 (drop place x) ≡ number 8 (number_at x place)
 number_there x place below within =
     let few : length (take 8 (drop place x)) ≡ 8 = simp (length-take, length-drop) (omega arith) in
     number_is 8 (number_at x place) (take 8 (drop place x)) few (All-take (λ b. b < 256) 8 (drop place x) (All-drop (λ b. b < 256) place x below)) refl

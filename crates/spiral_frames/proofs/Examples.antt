@@ -10,7 +10,7 @@ use Rattle.frame_headers.specs.Headers.{header}
 use Rattle.frame_headers.specs.Checks.{checked, passes, refuses, ends_before, set_in, header_checks}
 use Rattle.spiral_model.specs.Databases.{RecordTable}
 use Rattle.spiral_frames.specs.Frames.{cipher_bytes, refuse_body, database_body, frame_of, setup_message, refuse_message, database_message}
-use Rattle.spiral_frames.specs.FrameChecks.{residue_checks, reply_checks, state_checks, database_checks, database_refusal, frame_checks, front, more, wrong, whole, one_refusal}
+use Rattle.spiral_frames.specs.FrameChecks.{residue_checks, reply_checks, secret_checks, state_checks, database_checks, database_refusal, frame_checks, front, more, wrong, whole, one_refusal}
 
 -- A database of edge-256: two records of 4 bytes.
 abbrev two_records : RecordTable
@@ -78,7 +78,7 @@ state_refusals : (one_refusal (2 ^ 5) (edge_front 5 520 ++ digits 256 8 4) ≡ S
     × (one_refusal (2 ^ 5) (edge_front 5 520 ++ digits 256 8 3 ++ 3 ∷ []) ≡ Some (Residue 31 3 3))
     × (one_refusal (2 ^ 5) (edge_front 5 520 ++ digits 256 8 3 ++ 2 ∷ []) ≡ Some (Short 32))
     × (one_refusal (2 ^ 5) [] ≡ Some (Short 0))
-unfolding one_refusal front frame_checks checked set_in header_checks state_checks number_of digits digit
+unfolding one_refusal front frame_checks checked set_in header_checks state_checks secret_checks number_of digits digit
 state_refusals = (refl, refl, refl, refl)
 
 reply_refusals : (one_refusal (2 ^ 3) (edge_front 3 2064 ++ digits 256 8 5) ≡ Some (TooMany 23 5))

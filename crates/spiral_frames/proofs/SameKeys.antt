@@ -34,7 +34,7 @@ same_by_pieces {A} P f n size one (x ∷ xs) (y ∷ ys) hx hy count e =
 
 -- ---- residues, polynomials, ciphertexts
 
-residue_fits : q < 256 ^ 7
+pub residue_fits : q < 256 ^ 7
 unfolding q
 residue_fits = lit< tt
 

@@ -21,13 +21,13 @@ use Rattle.spiral_frames.proofs.FrameLaws.{frame_of_state, frame_of_reply, state
 -- ---- a state
 
 -- the number of a secret that a byte writes
-abbrev number_of_byte : ℕ → ℤ
+abbrev pub number_of_byte : ℕ → ℤ
 number_of_byte b = pos b -ℤ pos 1
 
 byte_back : (z : ℤ) → IsTernary z → number_of_byte (secret_byte z) ≡ z
 byte_back z h = omega (arith, ints)
 
-secret_back : (secret : List ℤ) → All IsTernary secret → map number_of_byte (map secret_byte secret) ≡ secret
+pub secret_back : (secret : List ℤ) → All IsTernary secret → map number_of_byte (map secret_byte secret) ≡ secret
 secret_back [] h = refl
 secret_back (z ∷ secret) h =
     ap₂ (λ (y : ℤ) (ys : List ℤ). y ∷ ys) (byte_back z (All-head IsTernary z secret h)) (secret_back secret (All-tail IsTernary z secret h))
@@ -66,7 +66,7 @@ same_values {A} P f n size one (x ∷ xs) (y ∷ ys) hx hy count e =
     (same_values P f n size one xs ys (All-tail P x xs hx) (All-tail P y ys hy) (omega (arith, count)) parts.1)
 
 -- a polynomial, from its bytes
-unpacked : (set : ParamSet) (width : ℕ) (a : Poly) → 8 * packed_len set width ≡ set.degree * width → IsSwitched set.degree (2 ^ width) a
+pub unpacked : (set : ParamSet) (width : ℕ) (a : Poly) → 8 * packed_len set width ≡ set.degree * width → IsSwitched set.degree (2 ^ width) a
     → repacked 8 width set.degree (packed set width a) ≡ a
 unpacked set width a whole is =
     let bits : width * length a ≡ width * set.degree = ap (λ (k : ℕ). width * k) is.degree in

@@ -27,7 +27,7 @@ abbrev pub run_len : ℕ → ℕ → ℕ → ℕ
 run_len N m count = count * ((m + 1) * (7 * N))
 
 -- their rows, one by one
-rows_of_one_shape : (m : ℕ) (counts : List Ciphertexts) → HaveRows m counts → rows_of counts ≡ replicate (ciphertext_count counts) m
+pub rows_of_one_shape : (m : ℕ) (counts : List Ciphertexts) → HaveRows m counts → rows_of counts ≡ replicate (ciphertext_count counts) m
 rows_of_one_shape m [] have = refl
 rows_of_one_shape m (c ∷ counts) have =
     ap (λ (r : ℕ). replicate c.how_many r ++ rows_of counts) have.0
@@ -92,10 +92,10 @@ module _ (set : ParamSet) where
   conversions_len = run_len set.degree (rows set) conversions_count
 
   -- the rows below row 0 of all ciphertexts, one by one
-  abbrev all_rows : List ℕ
+  abbrev pub all_rows : List ℕ
   all_rows = replicate rounds_count 1 ++ replicate lifts_count set.n ++ replicate conversions_count (rows set)
 
-  setup_rows : rows_of (setup_ciphertexts set) ≡ all_rows
+  pub setup_rows : rows_of (setup_ciphertexts set) ≡ all_rows
   setup_rows =
       let f : Ciphertexts → List ℕ = λ c. replicate c.how_many c.m in
       let front : rows_of (round_ciphertexts set ++ lift_ciphertexts set) ≡ replicate rounds_count 1 ++ replicate lifts_count set.n =
@@ -129,7 +129,7 @@ module _ (set : ParamSet) where
 -- ---- ciphertexts that have the rows of a list, one by one
 
 -- Ciphertext x has N coefficients in each row, and as many rows below row 0 as the list says at place x.
-abbrev FitRows : ℕ → List ℕ → List Cipher → Type 0
+abbrev pub FitRows : ℕ → List ℕ → List Cipher → Type 0
 FitRows N rows_below ciphers = EachIndex ciphers (λ x. IsCipher N (get_or rows_below x 0) (cipher_at ciphers x))
 
 module _ (N : ℕ) (rs ss : List ℕ) (xs ys : List Cipher) (same : length rs ≡ length xs) where
@@ -175,7 +175,7 @@ module _ (N : ℕ) (rs ss : List ℕ) (xs ys : List Cipher) (same : length rs �
 run_fits : (N m count : ℕ) (xs : List Cipher) → length xs ≡ count → All (IsCipher N m) xs → FitRows N (replicate count m) xs
 run_fits N m count xs many all x h = subst (λ (r : ℕ). IsCipher N r (cipher_at xs x)) (sym (get_or-replicate count x m 0 (omega arith))) (all x [] h)
 
-run_of_fit : (N m count : ℕ) (xs : List Cipher) → length xs ≡ count → FitRows N (replicate count m) xs → All (IsCipher N m) xs
+pub run_of_fit : (N m count : ℕ) (xs : List Cipher) → length xs ≡ count → FitRows N (replicate count m) xs → All (IsCipher N m) xs
 run_of_fit N m count xs many fit =
     All-from_get_or (IsCipher N m) xs [] (λ x h. subst (λ (r : ℕ). IsCipher N r (cipher_at xs x)) (get_or-replicate count x m 0 (omega arith)) (fit x h))
 

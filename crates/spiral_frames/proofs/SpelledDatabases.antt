@@ -23,13 +23,13 @@ use Rattle.spiral_frames.proofs.FrameLaws.{database_frame_is}
 use Rattle.spiral_frames.proofs.DatabaseFrames.{not_refused}
 
 -- the numbers of a database fit their 8 bytes
-numbers_fit : (count len size : ℕ) → count ≤ 4096 → len ≤ 49152 → size ≡ count * len → (count < 256 ^ 8) × ((len < 256 ^ 8) × (16 + size < 256 ^ 8))
+pub numbers_fit : (count len size : ℕ) → count ≤ 4096 → len ≤ 49152 → size ≡ count * len → (count < 256 ^ 8) × ((len < 256 ^ 8) × (16 + size < 256 ^ 8))
 numbers_fit count len size few short is =
     let product : count * len ≤ 4096 * 49152 = mul-le-mul few short in
     let large : 16 + 4096 * 49152 < 256 ^ 8 = lit< tt in
     (omega arith, (omega arith, omega arith))
 
-right_length : (a most : ℕ) → 0 < a → a ≤ most → (nat_eq a 0 || nat_lt most a) ≡ false
+pub right_length : (a most : ℕ) → 0 < a → a ≤ most → (nat_eq a 0 || nat_lt most a) ≡ false
 right_length a most some few = let other : a ≢ 0 = omega arith in rw (ne_eqb a 0 other, le-ltb most a few) refl
 
 module _ (x : List ℕ) (table : RecordTable) (one : IsOne Database x (database_message table)) where

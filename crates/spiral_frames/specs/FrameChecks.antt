@@ -1,7 +1,6 @@
 -- How an input is refused that should be one frame. Behind the header's checks stand those of the body, in the order in which the bytes
 -- come that decide them; the first that fails gives the refusal.
-use Rattle.std.specs.Prelude.{ℕ, List, [], ◌∷◌, ◌++◌, ◌+◌, ◌*◌, ◌/◌, ◌^◌, ◌||◌, not, length, take, drop, map, slice_index, nat_lt, nat_eq, if◌then◌else◌, Option, Some, None}
-use Rattle.std.specs.List.{range_with_len}
+use Rattle.std.specs.Prelude.{ℕ, zero, suc, List, [], ◌∷◌, ◌++◌, ◌+◌, ◌*◌, ◌/◌, ◌^◌, ◌||◌, not, length, take, drop, slice_index, nat_lt, nat_eq, if◌then◌else◌, Option, Some, None}
 use Rattle.negacyclic.specs.Digits.{number_of}
 use Rattle.spiral_sets.specs.declared.param_set.ParamSet.{ParamSet}
 use Rattle.spiral_sets.specs.Sets.{q, max_records, capacity}
@@ -19,15 +18,12 @@ use Rattle.frame_headers.specs.Checks.{Check, Outcome, passes, refuses, ends_bef
 abbrev pub residue_at : List ℕ → ℕ → ℕ
 residue_at bytes place = number_of 256 (take 7 (drop place bytes))
 
--- Residue i of ciphertexts that start at a place is below q.
-abbrev pub residue_check : List ℕ → ℕ → ℕ → Check
-residue_check bytes start i =
-    let place = start + 7 * i in
-    record { decided_at = place + 6; fails = not (nat_lt (residue_at bytes place) q); refusal = Residue place (residue_at bytes place) q }
-
--- So many residues.
+-- So many residues from a place on, 7 bytes each: each is below q.
 unfoldable pub residue_checks : List ℕ → ℕ → ℕ → List Check
-residue_checks bytes start count = map (residue_check bytes start) (range_with_len 0 count)
+residue_checks bytes place zero = []
+residue_checks bytes place (suc count) =
+    record { decided_at = place + 6; fails = not (nat_lt (residue_at bytes place) q); refusal = Residue place (residue_at bytes place) q }
+    ∷ residue_checks bytes (place + 7) count
 
 -- The count and the length of a Reply or a Database, 8 bytes each.
 abbrev pub count_check : ParamSet → List ℕ → ℕ → Check
@@ -48,14 +44,16 @@ index_check set bytes start =
     let index = number_at bytes start in
     record { decided_at = start + 7; fails = not (nat_lt index (max_records set)); refusal = Residue start index (max_records set) }
 
-abbrev pub secret_check : List ℕ → ℕ → ℕ → Check
-secret_check bytes start i =
-    let place = start + 8 + i in
+-- So many bytes of a secret from a place on.
+unfoldable pub secret_checks : List ℕ → ℕ → ℕ → List Check
+secret_checks bytes place zero = []
+secret_checks bytes place (suc count) =
     record { decided_at = place; fails = nat_lt 2 (slice_index bytes place); refusal = Residue place (slice_index bytes place) 3 }
+    ∷ secret_checks bytes (place + 1) count
 
 unfoldable pub state_checks : ParamSet → List ℕ → List Check
 state_checks set bytes =
-    index_check set bytes (header_len_in bytes) ∷ map (secret_check bytes (header_len_in bytes)) (range_with_len 0 (set.n * set.degree))
+    index_check set bytes (header_len_in bytes) ∷ secret_checks bytes (header_len_in bytes + 8) (set.n * set.degree)
 
 -- The checks of a Database's first numbers: the count of its records, their length, and the body length that both together give.
 unfoldable pub database_checks : ParamSet → List ℕ → List Check

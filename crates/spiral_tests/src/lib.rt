@@ -10,8 +10,6 @@ mod fixtures;
 #[cfg(test)]
 mod keys;
 #[cfg(test)]
-mod outside;
-#[cfg(test)]
 mod packing;
 #[cfg(test)]
 mod polynomials;

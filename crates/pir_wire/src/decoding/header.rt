@@ -1,7 +1,8 @@
 ghost use Rattle.std.specs.Prelude.{◌≡◌, ◌^◌, ◌<◌, ◌≤◌, IfOk, IfSome, IfNone};
 ghost use Rattle.spiral_sets.specs.declared.param_set.ParamSet.{ParamSet as ASet};
 ghost use Rattle.spiral_sets.specs.Sets.{IsSet};
-ghost use Rattle.pir_wire.specs.Headers.{header_of, frame_len_of, BeginsWith, HasOtherFront};
+ghost use Rattle.frame_streams.specs.Heads.{header_of};
+ghost use Rattle.pir_wire.specs.Headers.{frame_len_of, BeginsWith, HasOtherFront};
 
 use frame_headers::{FrameKind, push_header};
 use no_memory::NoMemory;

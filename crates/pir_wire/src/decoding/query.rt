@@ -12,7 +12,7 @@ use spiral_sets::ParamSet;
 use std::alloc::Global;
 
 /// How many rows a query's ciphertexts have below row 0: those of the set, or one where the query is one ciphertext.
-fn rows_below(set: &ParamSet) -> usize
+pub(crate) fn rows_below(set: &ParamSet) -> usize
     requires { IsSet set.now }
     ensures value { result ≡ query_rows set.now }
     ensures some { 1 ≤ result }

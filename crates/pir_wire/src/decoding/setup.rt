@@ -13,7 +13,7 @@ use spiral_sets::{ParamSet, digit_count};
 use std::alloc::Global;
 
 /// How many ciphertexts the automorphism keys of the expansion's rounds have; a set that expands nothing has none.
-fn rounds_count(set: &ParamSet) -> usize
+pub(crate) fn rounds_count(set: &ParamSet) -> usize
     requires { IsSet set.now }
     ensures { result ≡ ciphertext_count (round_ciphertexts set.now) }
 {
@@ -25,7 +25,7 @@ fn rounds_count(set: &ParamSet) -> usize
 }
 
 /// How many ciphertexts the lift keys have; a set without keys has none.
-fn lifts_count(set: &ParamSet) -> usize
+pub(crate) fn lifts_count(set: &ParamSet) -> usize
     requires { IsSet set.now }
     ensures { result ≡ ciphertext_count (lift_ciphertexts set.now) }
 {
