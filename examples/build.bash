@@ -2,8 +2,8 @@
 top=$(cd "$(dirname "${BASH_SOURCE[0]}")/.." && pwd)
 program=$top/crates/spiral_tool/out/spiral_tool
 
-# Crates below the program, itself among them, and how many of them the log says are begun.
-crates_count() { grep -cE '^[a-z_]+:' <(grep -v '^spiral_tests:' "$top/crates.txt"); }
+# Crates below the program, itself among them, and how many of them the log says are begun. (Each stands behind those below it.)
+crates_count() { tac "$top/crates.txt" | awk -F '[: ]+' 'BEGIN { below["spiral_tool"] } $1 in below { n++; for (i = 2; i <= NF; i++) below[$i] } END { print n }'; }
 begun() { grep -oE '^rt: chose --jobs [0-9]+ for [a-z_]+' "$1" | awk '!seen[$NF]++ { n++; name = $NF } END { print n + 0, name }'; }
 
 build_program() {

@@ -1,6 +1,6 @@
 #!/usr/bin/env bash
 # A whole private look-up on this machine: a server's database is made of the list of installed packages (or a word list, or a
-# text of our own, where there is no such list), a client asks for the record that has a name, the server answers without
+# text of our own, where there is no such list) and served over loopback; a client asks for the record that has a name, the server answers without
 # learning which record that was, and the client opens the answer.
 #   examples/look-up.sh [NAME]        (a name of the list; by default the one in its middle)
 set -u
@@ -12,7 +12,8 @@ build_program
 
 umask 077 # the seed and the state are the client's secrets: nobody else may read them
 work=$(mktemp -d) || exit 1
-trap 'rm -rf "$work"' EXIT
+server=""
+trap '[ -n "$server" ] && kill "$server" 2> /dev/null; rm -rf "$work"' EXIT
 cd "$work" || exit 1
 
 # lines: the data, a line an item, its name first.
@@ -58,10 +59,13 @@ what() {
     3) echo "the program knows no set of this name" ;;
     4) echo "the set has no record of this index" ;;
     5) echo "the source of random words is too short" ;;
+    6) echo "the query of this seed would be too noisy: try again" ;;
     7) echo "a file couldn't be read or written" ;;
-    9) echo "an input file isn't the frame that is expected there" ;;
+    8) echo "the connection failed" ;;
+    9) echo "an input isn't the frame that is expected there" ;;
     10) echo "the messages are of different parameter sets" ;;
     11) echo "the database has no record of this index" ;;
+    12) echo "the server refused the query" ;;
     13) echo "the data aren't records of this length" ;;
     14) echo "the line couldn't be printed" ;;
     *) echo "the program was stopped" ;;
@@ -80,19 +84,26 @@ step() {
 }
 
 echo "Asked for: $name, which the index says is in record $number of $(($(wc -c < records) / length))."
-echo "# the server, once"
+echo "# the server"
 step prepare "$set_name" "$length" records database
+port=$((20000 + RANDOM % 20000))
+listening() { grep -qs " 0100007F:$(printf '%04X' "$port") 00000000:0000 0A " /proc/net/tcp; }
+while listening; do port=$((port + 1)); done
+echo "\$ spiral_tool serve 127.0.0.1:$port database 1 $workers &"
+"$program" serve "127.0.0.1:$port" database 1 "$workers" > lines &
+server=$!
+while kill -0 "$server" 2> /dev/null && ! listening; do sleep 0.05; done # it brings the database into product form first
 echo "# the client, with a fresh seed: two queries from one seed would show the server how their indices differ"
 head -c 32 /dev/urandom > seed
-step ask "$set_name" "$number" seed:seed state setup query
+step fetch "127.0.0.1:$port" "$set_name" "$number" seed:seed record
 rm seed
-echo "# the server"
-step answer database setup query reply "$workers"
-echo "# the client"
-step open state reply record
 filter="\$1 == \"$name\""
 echo "\$ awk '$filter' record"
 awk "$filter" record
+echo "# the server"
+wait "$server"
+server=""
+cat lines
 
 if ! cmp -s record <(tail -c +$((number * length + 1)) records | head -c "$length"); then
   echo "The record isn't the one that was asked for." >&2

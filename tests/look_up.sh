@@ -158,7 +158,7 @@ expect "a query that is sent whole and packed" 0 "query tiny-streampack setup 86
 expect "its packed answer" 0 "reply tiny-streampack 2862 bytes" answer sent_db sent_keys sent_query sent_reply 3
 head -c 1024 /dev/zero | tr '\0' '\006' > wanted_6
 expect "its packed record" 0 "record 1024 bytes" open sent_state sent_reply record_6; same "its packed record" record_6 wanted_6
-expect "a set that sends its query needs its lift keys" 9 "" answer sent_db empty sent_query no 1
+expect "a set that sends its query needs its lift keys" 9 "bad frame: input 2, code 1, place 0" answer sent_db empty sent_query no 1
 expect "keys of another packing set" 10 "wrong set: expected tiny-streampack, found tiny-pack" answer sent_db pack_keys sent_query no 1
 
 # ---- look-ups on the large sets that pack: the last of three records, and one of them
@@ -177,17 +177,17 @@ done
 
 head -c 1655833 keys > cut_keys; { cat keys; printf '\0'; } > longer_keys
 { head -c 40 keys; bytes 0100df1e20f1ed; tail -c +48 keys; } > keys_at_q; { head -c 40 keys; bytes 0000df1e20f1ed; tail -c +48 keys; } > keys_below_q
-expect "no keys" 9 "" answer keys_db empty keys_query no 1
+expect "no keys" 9 "bad frame: input 2, code 1, place 0" answer keys_db empty keys_query no 1
 expect "keys of another set" 10 "wrong set: expected tiny-spiral, found spiral-2048" answer keys_db long_keys keys_query no 1
 expect "keys and a query of other sets" 10 "wrong set: expected tiny-spiral, found spiral-2048" answer keys_db long_keys query no 1
 expect "a query of another set than the keys" 10 "wrong set: expected tiny-spiral, found spiral-2048" answer keys_db keys long_query no 1
-expect "keys without their last byte" 9 "" answer keys_db cut_keys keys_query no 1
-expect "a byte after the keys" 9 "" answer keys_db longer_keys keys_query no 1
-expect "a residue of the keys that is q" 9 "" answer keys_db keys_at_q keys_query no 1
-expect "a query in the place of the keys" 9 "" answer keys_db keys_query keys_query no 1
-expect "keys where the set has none" 9 "" answer steps_db keys query no 1
+expect "keys without their last byte" 9 "bad frame: input 2, code 1, place 1655833" answer keys_db cut_keys keys_query no 1
+expect "a byte after the keys" 9 "bad frame: input 2, code 14, place 1655834" answer keys_db longer_keys keys_query no 1
+expect "a residue of the keys that is q" 9 "bad frame: input 2, code 7, place 40" answer keys_db keys_at_q keys_query no 1
+expect "a query in the place of the keys" 9 "bad frame: input 2, code 4, place 5" answer keys_db keys_query keys_query no 1
+expect "keys where the set has none" 10 "wrong set: expected edge-256, found tiny-spiral" answer steps_db keys query no 1
 expect "keys that aren't there" 7 "file fault" answer keys_db missing keys_query no 1
-expect "bad keys before a query that isn't there" 9 "" answer keys_db cut_keys missing no 1
+expect "bad keys before a query that isn't there" 9 "bad frame: input 2, code 1, place 1655833" answer keys_db cut_keys missing no 1
 absent "refused keys" no
 expect "a residue below q" 0 "reply tiny-spiral 1834 bytes" answer keys_db keys_below_q keys_query other_reply 1
 
@@ -213,12 +213,12 @@ refused "a set without a name" 53504952010600 5 7
 refused "a set that isn't known, tiny-spiraI with a capital" 535049520106"0b"74696e792d737069726149 5 7
 absent "refused databases" no
 (ulimit -v 200000; refused "a body of 2^64 - 1 bytes takes no memory" "${front}ffffffffffffffff$n1$n4" 10 15; [ "$failed" = 0 ]) && passed=$((passed + 1)) || failed=$((failed + 1))
-expect "a setup of one byte" 9 "" answer steps_db seven query no 1
-expect "a reply in the query's place" 9 "" answer steps_db setup reply no 1
+expect "a setup of seven bytes" 9 "bad frame: input 2, code 2, place 0" answer steps_db seven query no 1
+expect "a reply in the query's place" 9 "bad frame: input 3, code 4, place 5" answer steps_db setup reply no 1
 head -c 150550 query > cut; { cat query; printf '\0'; } > longer; { head -c 23 query; bytes 0100df1e20f1ed; tail -c 150521 query; } > at_q
-expect "a query without its last byte" 9 "" answer steps_db setup cut no 1
-expect "a byte after the query" 9 "" answer steps_db setup longer no 1
-expect "a residue that is q" 9 "" answer steps_db setup at_q no 1
+expect "a query without its last byte" 9 "bad frame: input 3, code 1, place 150550" answer steps_db setup cut no 1
+expect "a byte after the query" 9 "bad frame: input 3, code 14, place 150551" answer steps_db setup longer no 1
+expect "a residue that is q" 9 "bad frame: input 3, code 7, place 23" answer steps_db setup at_q no 1
 expect "a query of another set" 10 "wrong set: expected edge-256, found tiny-stream" answer steps_db su qu no 1
 expect "no database" 7 "file fault" answer missing setup query no 1
 expect "no setup" 7 "file fault" answer steps_db missing query no 1

@@ -29,14 +29,17 @@ expect "numbers 4v" 0 "record 1024 bytes" open state reply out; same "numbers 4v
 expect "numbers 4v + 2, an exact half above" 0 "record 1024 bytes" open state reply_half half_out; same "numbers 4v + 2" half_out next_steps
 expect "index 1 of 1 record" 11 "absent: index 1, count 1" open state1 reply no; absent "index 1" no
 head -c 2086 reply > cut
-expect "a reply without its last byte" 9 "" open state cut no; absent "a reply cut" no
+expect "a reply without its last byte" 9 "bad frame: input 2, code 1, place 2086" open state cut no; absent "a reply cut" no
 { cat reply; printf '\0'; } > longer
-expect "a byte after the reply" 9 "" open state longer no
+expect "a byte after the reply" 9 "bad frame: input 2, code 14, place 2087" open state longer no
 { head -c 31 state; bytes 03; tail -c 511 state; } > bad_secret
-expect "a secret byte 3" 9 "" open bad_secret reply no
+expect "a secret byte 3" 9 "bad frame: input 1, code 7, place 31" open bad_secret reply no
 : > empty
-expect "an empty state" 9 "" open empty reply no
-expect "a reply in the state's place" 9 "" open reply reply no
+expect "an empty state" 9 "bad frame: input 1, code 1, place 0" open empty reply no
+expect "a reply in the state's place" 9 "bad frame: input 1, code 4, place 5" open reply reply no
+bytes "${magic}0104${name}09000000000000000c1700000000000000" > peer
+expect "a refusal of the server" 12 "peer refused: code 12, place 23" open state peer no; absent "a refusal" no
+expect "a bad state before a refusal of the server" 9 "bad frame: input 1, code 1, place 0" open empty peer no
 expect "words missing" 2 "usage" open a b
 expect "no words" 2 "usage"
 expect "a word more" 2 "usage" open state reply out more
@@ -54,7 +57,7 @@ same "standard output full" out steps
 
 truncate -s 1G huge
 seconds=$SECONDS
-(ulimit -v 200000; expect "a file of 1 GiB" 9 "" open state huge no; [ "$failed" = 0 ]) && passed=$((passed + 1)) || failed=$((failed + 1))
+(ulimit -v 200000; expect "a file of 1 GiB" 9 "bad frame: input 2, code 2, place 0" open state huge no; [ "$failed" = 0 ]) && passed=$((passed + 1)) || failed=$((failed + 1))
 [ $((SECONDS - seconds)) -le 5 ] && passed=$((passed + 1)) || { failed=$((failed + 1)); echo "FAILED a file of 1 GiB took long"; }
 
 closing

@@ -1,16 +1,36 @@
 //! The program's commands over objects in memory, with the frames of a look-up that was worked out by hand.
+ghost use Rattle.std.specs.Prelude.{◌≡◌, false};
+
 use crate::frames::{
     EDGE, STREAM, edge_database, edge_query, edge_reply, state_frame, steps, stream_database,
     stream_query, stream_record, stream_reply, words_file,
 };
-use pir_io::{MemFiles, MemSink, OpenGate, SoundNet};
+use pir_io::{MemFiles, MemSink, Net, OpenGate, SoundNet};
 use std::alloc::{AllocError, Global};
 use std::process::Abort;
 use std::test::Fail;
 use std::thread::Threads;
 use tool_run::run;
 
-/// Runs the program on these words.
+/// Runs the program on these words and that net.
+pub(crate) fn status_over<R: Threads + Sync, N: Net>(
+    rt: &R,
+    alloc: Global,
+    words: &[&str],
+    files: &mut MemFiles,
+    net: &mut N,
+    sink: &mut MemSink,
+) -> Result<u8, AllocError>
+    requires { (N.seen net.old).is_open ≡ false }
+{
+    let mut args = Vec::new(alloc);
+    for word in words {
+        args.push(String::from_str(alloc, word)?)?;
+    }
+    Ok(run(rt, alloc, &args, files, net, &OpenGate, sink))
+}
+
+/// Runs the program on these words, without a net.
 pub(crate) fn status_of<R: Threads + Sync>(
     rt: &R,
     alloc: Global,
@@ -18,12 +38,8 @@ pub(crate) fn status_of<R: Threads + Sync>(
     files: &mut MemFiles,
     sink: &mut MemSink,
 ) -> Result<u8, AllocError> {
-    let mut args = Vec::new(alloc);
-    for word in words {
-        args.push(String::from_str(alloc, word)?)?;
-    }
     let mut net = SoundNet::new(alloc, Vec::new(alloc), 1);
-    Ok(run(rt, alloc, &args, files, &mut net, &OpenGate, sink))
+    status_over(rt, alloc, words, files, &mut net, sink)
 }
 
 pub(crate) fn expect_bytes(rt: &impl Abort, bytes: Option<&[u8]>, want: &[u8], name: &str) {
@@ -97,7 +113,7 @@ const LOOK_UP: [Course; 5] = [
 ];
 
 /// All that a look-up takes and makes. The listed calls fail.
-fn inputs(alloc: Global, fail: Vec<u64>) -> Result<MemFiles, Fail> {
+pub(crate) fn inputs(alloc: Global, fail: Vec<u64>) -> Result<MemFiles, Fail> {
     let mut files = MemFiles::new(alloc, fail);
     files.with("record", &steps(alloc, 0)?)?;
     files.with("words", &words_file(alloc, EDGE.numbers, 29184)?)?;

@@ -15,6 +15,10 @@ mod names;
 #[cfg(test)]
 mod packing;
 #[cfg(test)]
+mod peers;
+#[cfg(test)]
 mod records;
+#[cfg(test)]
+mod refusals;
 #[cfg(test)]
 mod streams;

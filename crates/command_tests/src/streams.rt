@@ -12,24 +12,29 @@ use std::test::Fail;
 /// Accepts the kinds Query, Reply and State.
 const READ_HERE: u8 = 0x2c;
 
+/// Accepts the kinds Setup and Query.
+const SERVED_HERE: u8 = 0x06;
+
 /// Accepts the kinds Query and Refuse.
 const REFUSED_HERE: u8 = 0x14;
 
 /// The Refuse frame of edge-256 with code 7 and place 258: 23 bytes of header, whose body length is 9, the code, and the place.
 const REFUSE: &[u8] = b"SPIR\x01\x04\x08edge-256\x09\0\0\0\0\0\0\0\x07\x02\x01\0\0\0\0\0\0";
 
-/// Feeds bytes in pieces of so many.
-fn feed_in_pieces(decoder: &mut Decoder, bytes: &[u8], size: usize) -> Result<(), FeedError>
+/// Feeds bytes in pieces of so many. The most bytes that were kept behind a piece without being part of a message yet.
+fn feed_in_pieces(decoder: &mut Decoder, bytes: &[u8], size: usize) -> Result<usize, FeedError>
     requires some { 0 < size }
     requires room { HasRoom decoder.old (length bytes.now) }
 {
+    let mut most = 0;
     let mut place = 0;
     while place < bytes.len() {
         let count = size.min(bytes.len() - place);
         decoder.feed(&bytes[place..place + count])?;
+        most = most.max(decoder.held());
         place += count;
     }
-    Ok(())
+    Ok(most)
 }
 
 /// A decoder of these kinds that has read the bytes in pieces of so many.
@@ -38,7 +43,7 @@ fn read_in_pieces(alloc: Global, kinds: u8, bytes: &[u8], size: usize) -> Result
     requires some { 0 < size }
 {
     let mut decoder = Decoder::new(alloc, kinds)?;
-    feed_in_pieces(&mut decoder, bytes, size)?;
+    let _most = feed_in_pieces(&mut decoder, bytes, size)?;
     Ok(decoder)
 }
 
@@ -153,5 +158,38 @@ fn a_refuse_frame_is_read(rt: HostRuntime) -> Result<(), Fail> {
 fn a_header_that_has_come_in_part_is_held(rt: HostRuntime) -> Result<(), Fail> {
     let decoder = read_in_pieces(rt.alloc(), REFUSED_HERE, &REFUSE[..10], 3)?;
     assert_eq!(rt; decoder.held(), 10);
+    Ok(())
+}
+
+/// A Setup and a Query frame of tiny-pack, 1605656 and 3608 bytes, whose residues are 0. The keys are 420 ciphertexts: 56 for each of five rounds and 28 for
+/// each of two, 56 to lift and 28 to translate.
+fn pack_frames(alloc: Global) -> Result<Vec<u8>, Fail> {
+    let mut input = b"SPIR\x01\x01\x09tiny-pack\0\x80\x18\0\0\0\0\0".to_vec(alloc)?;
+    input.resize(1_605_656, 0)?;
+    input.extend_from_slice(b"SPIR\x01\x02\x09tiny-pack\0\x0e\0\0\0\0\0\0")?;
+    input.resize(1_609_264, 0)?;
+    Ok(input)
+}
+
+/// Of a header of 24 bytes or of a residue of 7, so many bytes are kept at most where pieces have that size.
+const KEPT: [(usize, usize); 4] = [(1, 23), (7, 21), (4096, 6), (65536, 6)];
+
+/// The frames are read in pieces of that size, and so many bytes are kept at most.
+fn expect_kept(rt: &impl Abort, alloc: Global, size: usize, most: usize) -> Result<(), Fail>
+    requires { 0 < size }
+{
+    let mut decoder = Decoder::new(alloc, SERVED_HERE)?;
+    let input = pack_frames(alloc)?;
+    assert_eq!(rt; feed_in_pieces(&mut decoder, &input, size)?, most);
+    expect_next(rt, &mut decoder, "setup", 420, 0)?;
+    expect_next(rt, &mut decoder, "query", 1, 1_605_656)?;
+    Ok(())
+}
+
+#[test]
+fn few_bytes_of_a_setup_are_kept(rt: HostRuntime) -> Result<(), Fail> {
+    for (size, most) in &KEPT {
+        expect_kept(&rt, rt.alloc(), *size, *most)?;
+    }
     Ok(())
 }

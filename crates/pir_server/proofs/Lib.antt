@@ -1,3 +1,10 @@
 pub mod Replies
 pub mod ResultColumns
 pub mod Serving
+pub mod Midst
+pub mod Ends
+pub mod Writing
+pub mod MessagesServed
+pub mod Onward
+pub mod PiecesTaken
+pub mod Turning

@@ -1,2 +1,4 @@
 pub mod Served
 pub mod Switched
+pub mod Sessions
+pub mod Talks

@@ -5,5 +5,7 @@ mod answering;
 mod folding;
 mod results;
 mod server;
+mod session;
 
 pub use server::Server;
+pub use session::{EndCause, SessionEnd};

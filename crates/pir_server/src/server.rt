@@ -1,6 +1,6 @@
 ghost use Rattle.std.specs.Prelude.{true, ◌≡◌, ◌≤◌, IfOk};
 ghost use Rattle.std.specs.Option.{option_copied};
-ghost use Rattle.spiral_model.specs.Sets.{has_keys};
+ghost use Rattle.spiral_model.specs.Sets.{IsSet, has_keys};
 ghost use Rattle.spiral_model.specs.Bodies.{IsSetup, IsQuery};
 ghost use Rattle.spiral_model.specs.Keys.{keys_in};
 ghost use Rattle.spiral_model.specs.Answering.{ready_of, answer_of};
@@ -90,6 +90,14 @@ impl Server {
         ensures { result ≡ self.now.table.set }
     {
         self.db.set
+    }
+
+    /// The allocator that it was made with, and the set of its database.
+    pub(crate) fn context(&self) -> (Global, ParamSet)
+        ensures set { result.1 ≡ self.now.table.set }
+        ensures known { IsSet result.1 }
+    {
+        (self.alloc, self.db.set)
     }
 
     /// The keys that a setup of its set carries, in product form. Brought into it once, they serve every query of that setup.

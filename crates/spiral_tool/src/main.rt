@@ -1,7 +1,7 @@
-//! The program: private information retrieval by commands over files.
+//! The program: private information retrieval by commands over files and the network.
 #![tactic(auto)]
 
-use pir_io::{HostFiles, OpenGate, OutSink, SoundNet};
+use pir_io::{HostFiles, OpenGate, OutSink, TcpNet};
 use std::alloc::Global;
 use std::env;
 use std::io::{self, ErrorKind};
@@ -30,7 +30,7 @@ fn main(rt: HostRuntime) -> ExitCode {
         Err(_) => Vec::new(alloc),
     };
     let mut files = HostFiles::new(&rt, alloc);
-    let mut net = SoundNet::new(alloc, Vec::new(alloc), 1);
+    let mut net = TcpNet::new(&rt, alloc);
     let mut sink = OutSink::new(&rt, alloc);
     ExitCode::from(run(
         &rt, alloc, &words, &mut files, &mut net, &OpenGate, &mut sink,

@@ -12,7 +12,7 @@ use Rattle.tool_base.specs.Steps.{Scene, Steps, at_files, refuse, without_line, 
 abbrev pub TellsStill : Scene → Type 0
 TellsStill s = (s.files_after.tells ≡ s.files.tells) × (s.sink_after.tells ≡ s.sink.tells)
 
-refusal_told : (so sn : SinkSeen) (line : List ℕ) → GotRefusal so sn line → sn.tells ≡ so.tells
+pub refusal_told : (so sn : SinkSeen) (line : List ℕ) → GotRefusal so sn line → sn.tells ≡ so.tells
 refusal_told so sn line (inl got) = got.0
 refusal_told so sn line (inr got) = got.0
 

@@ -7,7 +7,7 @@ use Rattle.std.proofs.lemmas.Str.Parse.{numerals_by_value, tells_digits}
 use Rattle.std.specs.Result.{result_ok}
 use Rattle.std.specs.Str.{bytes_eq}
 use Rattle.std.specs.Str.Parse.{AllDigits, ParsesUnsigned, IsNumeral, digits_value, without_leading_plus}
-use Rattle.tool_base.specs.Words.{IsNumber, IsWorkers, CommandName, the_prepare, the_ask, the_answer, the_open, the_noise, spelled_name, Said, args_of, InForm, FitNone}
+use Rattle.tool_base.specs.Words.{IsNumber, IsCountTo, CommandName, the_prepare, the_ask, the_answer, the_open, the_noise, the_local, the_serve, the_fetch, spelled_name, Said, args_of, InForm, FitNone}
 
 first_digit : (n : ℕ) → n < 2 ^ 32 → 48 ≤ get_or (decimal n) 0 0
 first_digit zero small = omega (arith, ap (λ b. get_or b 0 0) (decimal_digit 0 (omega arith)))
@@ -38,11 +38,11 @@ parsed_is bs (Ok n) parses plus zeros =
     (omega (arith, read.0.1, read.1), sym (decimal-digits_value (numerals_by_value (AllDigits 10) tells_digits) bs read.0.0.1 some (λ z. omega (arith, some, zeros z)) (omega (arith, read.0.1))) ∙ ap decimal (sym read.1))
 parsed_is bs (Err e) parses plus zeros = not_parsed bs e parses
 
--- a word of another number is no number of workers
-pub not_workers : (word : List ℕ) (n : ℕ) → IsNumber word n → (1 ≤ n → n ≤ 64 → ⊥) → (k : ℕ) → IsWorkers word k → ⊥
-not_workers word n is out k workers =
-    let same : k ≡ n = decimal_injective k n (omega (arith, workers.1)) (omega (arith, is.0)) (sym workers.2 ∙ is.1) in
-    out (omega (arith, same, workers.0)) (omega (arith, same, workers.1))
+-- a word of a number that isn't from 1 to this one is none of those
+pub not_counted : (most : ℕ) (word : List ℕ) (n : ℕ) → most < 2 ^ 32 → IsNumber word n → (1 ≤ n → n ≤ most → ⊥) → (k : ℕ) → IsCountTo most word k → ⊥
+not_counted most word n small is out k counted =
+    let same : k ≡ n = decimal_injective k n (omega (arith, small, counted.1)) (omega (arith, is.0)) (sym counted.2 ∙ is.1) in
+    out (omega (arith, same, counted.0)) (omega (arith, same, counted.1))
 
 -- ---- the words one by one
 
@@ -89,7 +89,7 @@ named_in (name ∷ names) word = cond (bytes_eq (spelled_name name) word) (Some 
 
 -- the table, a row a command; it is checked by computing
 named : List ℕ → Option CommandName
-named = named_in (the_prepare ∷ the_ask ∷ the_answer ∷ the_open ∷ the_noise ∷ [])
+named = named_in (the_prepare ∷ the_ask ∷ the_answer ∷ the_open ∷ the_noise ∷ the_local ∷ the_serve ∷ the_fetch ∷ [])
 
 named_again : (name : CommandName) → named (spelled_name name) ≡ Some name
 unfolding named named_in
@@ -98,6 +98,9 @@ named_again the_ask = refl
 named_again the_answer = refl
 named_again the_open = refl
 named_again the_noise = refl
+named_again the_local = refl
+named_again the_serve = refl
+named_again the_fetch = refl
 
 same_name : (a b : CommandName) → spelled_name a ≡ spelled_name b → a ≡ b
 same_name a b same = let e : Some a ≡ Some b = sym (named_again a) ∙ ap named same ∙ named_again b in cc

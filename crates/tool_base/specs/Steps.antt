@@ -1,7 +1,7 @@
 -- The steps of which a command's definition is made, in the order in which it takes them. A command is a relation between what is seen
 -- of the files and of the sink, before and after, and the status that it ends with. What is said of contents holds of an object that
 -- tells them.
-use Rattle.std.specs.Prelude.{ℕ, List, IsTrue, ◌≡◌, ◌⊎◌}
+use Rattle.std.specs.Prelude.{ℕ, List, IsTrue, ◌≡◌, ◌⊎◌, Some}
 use Rattle.pir_io.specs.Faults.{Rose}
 use Rattle.pir_io.specs.Files.{FilesSeen, content_of}
 use Rattle.pir_io.specs.Reading.{OnlyRead, FailedReading}
@@ -9,6 +9,7 @@ use Rattle.pir_io.specs.Sink.{SinkSeen}
 use Rattle.spiral_sets.specs.declared.param_set.ParamSet.{ParamSet}
 use Rattle.frame_headers.specs.declared.frame_error.FrameError.{FrameError}
 use Rattle.spiral_frames.specs.Refusals.{code_of, place_of}
+use Rattle.spiral_frames.specs.FrameChecks.{one_refusal}
 use Rattle.tool_base.specs.declared.status.Status.{Status}
 use Rattle.tool_base.specs.declared.status.Status.TheVariants.{NoMemory, UnknownSet, FileFault, BadFrame}
 use Rattle.tool_base.specs.Texts.{unknown_set_line, file_fault_line, bad_frame_line}
@@ -48,6 +49,10 @@ without_line ended s status = (s.files_after ≡ s.files) × (status ≡ ended) 
 -- it doesn't come here
 abbrev pub never : Steps
 never s status = ⊥
+
+-- these bytes, which have to be one frame of these kinds, are refused for this reason
+abbrev pub IsRefusedAs : ℕ → List ℕ → FrameError → Type 0
+IsRefusedAs kinds bytes error = one_refusal kinds bytes ≡ Some error
 
 -- Ends with the refusal of a file that was read as an input, counted from 1: a code says why, and where.
 abbrev pub refuse_frame : ℕ → List ℕ → (List ℕ → FrameError → Type 0) → Steps

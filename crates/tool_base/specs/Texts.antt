@@ -13,6 +13,14 @@ usage_line = line (codes "usage")
 abbrev pub file_fault_line : List ℕ
 file_fault_line = line (codes "file fault")
 
+-- a call of the net failed
+abbrev pub link_fault_line : List ℕ
+link_fault_line = line (codes "link fault")
+
+-- a session took as many bytes as it may
+abbrev pub input_limit_line : List ℕ
+input_limit_line = line (codes "input limit")
+
 -- a record of so many bytes was written
 abbrev pub record_line : ℕ → List ℕ
 record_line len = codes "record " ++ (decimal len ++ line (codes " bytes"))
@@ -82,6 +90,10 @@ database_line set count len =
 abbrev pub bad_frame_line : ℕ → ℕ → ℕ → List ℕ
 bad_frame_line input code place =
     codes "bad frame: input " ++ (decimal input ++ (codes ", code " ++ (decimal code ++ (codes ", place " ++ (decimal place ++ 10 ∷ [])))))
+
+-- the server refused the query: its code says why, and where in what it read
+abbrev pub peer_refused_line : ℕ → ℕ → List ℕ
+peer_refused_line code place = codes "peer refused: code " ++ (decimal code ++ (codes ", place " ++ (decimal place ++ 10 ∷ [])))
 
 -- a reply of that set was written, of so many bytes
 abbrev pub reply_line : List ℕ → ℕ → List ℕ

@@ -5,6 +5,9 @@ use Rattle.tool_base.specs.declared.words.asking.Ask.{Ask}
 use Rattle.tool_base.specs.declared.words.preparing.Prepare.{Prepare}
 use Rattle.tool_base.specs.declared.words.measuring.Noise.{Noise}
 use Rattle.tool_base.specs.declared.words.answering.Answer.{Answer}
+use Rattle.tool_base.specs.declared.words.local.Local.{Local}
+use Rattle.tool_base.specs.declared.words.serving.Serve.{Serve}
+use Rattle.tool_base.specs.declared.words.fetching.Fetch.{Fetch}
 use Rattle.tool_base.specs.declared.words.Command.{Command}
 use Rattle.tool_base.specs.declared.words.Command.TheVariants as command
 use Rattle.tool_base.specs.Sources.{WordSource, source_name, source_word, source_seen}
@@ -47,6 +50,31 @@ pub record NoiseWords : Type 0 where
   pub index : ℕ
   pub source : WordSource
 
+-- `local DB INDEX WORDS TRANSCRIPT OUT WORKERS CUT`
+pub record LocalWords : Type 0 where
+  pub db_name : List ℕ
+  pub index : ℕ
+  pub source : WordSource
+  pub transcript_name : List ℕ
+  pub out_name : List ℕ
+  pub workers : ℕ
+  pub cut : ℕ
+
+-- `serve ADDR DB SESSIONS WORKERS`
+pub record ServeWords : Type 0 where
+  pub addr : List ℕ
+  pub db_name : List ℕ
+  pub sessions : ℕ
+  pub workers : ℕ
+
+-- `fetch ADDR SET INDEX WORDS OUT`
+pub record FetchWords : Type 0 where
+  pub addr : List ℕ
+  pub set_name : List ℕ
+  pub index : ℕ
+  pub source : WordSource
+  pub out_name : List ℕ
+
 -- ---- the words behind a command's name, a number in plain decimal; and where they are in form
 
 abbrev pub prepare_args : PrepareWords → List (List ℕ)
@@ -83,6 +111,29 @@ noise_args a = a.set_name ∷ decimal a.index ∷ source_word a.source ∷ []
 abbrev pub NoiseForm : NoiseWords → Type 0
 NoiseForm a = (a.index < 2 ^ 32) × (0 < length (source_name a.source))
 
+abbrev pub local_args : LocalWords → List (List ℕ)
+local_args l =
+    l.db_name ∷ decimal l.index ∷ source_word l.source ∷ l.transcript_name ∷ l.out_name ∷ decimal l.workers ∷ decimal l.cut ∷ []
+
+-- INDEX and WORDS as in `ask`, WORKERS is from 1 to 64, and CUT from 1 to 1048576
+abbrev pub LocalForm : LocalWords → Type 0
+LocalForm l =
+    (l.index < 2 ^ 32) × (0 < length (source_name l.source)) × (1 ≤ l.workers) × (l.workers ≤ 64) × (1 ≤ l.cut) × (l.cut ≤ 1048576)
+
+abbrev pub serve_args : ServeWords → List (List ℕ)
+serve_args s = s.addr ∷ s.db_name ∷ decimal s.sessions ∷ decimal s.workers ∷ []
+
+-- SESSIONS is from 1 to 1000000, and WORKERS from 1 to 64
+abbrev pub ServeForm : ServeWords → Type 0
+ServeForm s = (1 ≤ s.sessions) × (s.sessions ≤ 1000000) × (1 ≤ s.workers) × (s.workers ≤ 64)
+
+abbrev pub fetch_args : FetchWords → List (List ℕ)
+fetch_args f = f.addr ∷ f.set_name ∷ decimal f.index ∷ source_word f.source ∷ f.out_name ∷ []
+
+-- as in `ask`
+abbrev pub FetchForm : FetchWords → Type 0
+FetchForm f = (f.index < 2 ^ 32) × (0 < length (source_name f.source))
+
 -- ---- the table of the commands
 
 pub data CommandName : Type 0 where
@@ -91,6 +142,9 @@ pub data CommandName : Type 0 where
   the_answer : CommandName
   the_open : CommandName
   the_noise : CommandName
+  the_local : CommandName
+  the_serve : CommandName
+  the_fetch : CommandName
 
 -- the first word
 abbrev pub spelled_name : CommandName → List ℕ
@@ -99,6 +153,9 @@ spelled_name the_ask = codes "ask"
 spelled_name the_answer = codes "answer"
 spelled_name the_open = codes "open"
 spelled_name the_noise = codes "noise"
+spelled_name the_local = codes "local"
+spelled_name the_serve = codes "serve"
+spelled_name the_fetch = codes "fetch"
 
 -- what the words behind it say
 abbrev pub Said : CommandName → Type 0
@@ -107,6 +164,9 @@ Said the_ask = AskWords
 Said the_answer = AnswerWords
 Said the_open = OpenWords
 Said the_noise = NoiseWords
+Said the_local = LocalWords
+Said the_serve = ServeWords
+Said the_fetch = FetchWords
 
 abbrev pub args_of : (name : CommandName) → Said name → List (List ℕ)
 args_of the_prepare = prepare_args
@@ -114,6 +174,9 @@ args_of the_ask = ask_args
 args_of the_answer = answer_args
 args_of the_open = open_args
 args_of the_noise = noise_args
+args_of the_local = local_args
+args_of the_serve = serve_args
+args_of the_fetch = fetch_args
 
 abbrev pub InForm : (name : CommandName) → Said name → Type 0
 InForm the_prepare = PrepareForm
@@ -121,6 +184,9 @@ InForm the_ask = AskForm
 InForm the_answer = AnswerForm
 InForm the_open = OpenForm
 InForm the_noise = NoiseForm
+InForm the_local = LocalForm
+InForm the_serve = ServeForm
+InForm the_fetch = FetchForm
 
 -- ---- what a command line asks for
 
@@ -153,12 +219,25 @@ open_seen o = record { state_name = o.state.now; reply_name = o.reply.now; out_n
 abbrev pub noise_seen : Noise → NoiseWords
 noise_seen a = record { set_name = a.set.now; index = a.index; source = source_seen a.source }
 
+abbrev pub local_seen : Local → LocalWords
+local_seen l =
+    record { db_name = l.db.now; index = l.index; source = source_seen l.source; transcript_name = l.transcript.now; out_name = l.out.now; workers = l.workers; cut = l.cut }
+
+abbrev pub serve_seen : Serve → ServeWords
+serve_seen s = record { addr = s.addr.now; db_name = s.db.now; sessions = s.sessions; workers = s.workers }
+
+abbrev pub fetch_seen : Fetch → FetchWords
+fetch_seen f = record { addr = f.addr.now; set_name = f.set.now; index = f.index; source = source_seen f.source; out_name = f.out.now }
+
 abbrev pub command_seen : Command → Asked
 command_seen (command.Prepare p) = record { name = the_prepare; said = prepare_seen p }
 command_seen (command.Ask a) = record { name = the_ask; said = ask_seen a }
 command_seen (command.Answer a) = record { name = the_answer; said = answer_seen a }
 command_seen (command.Open o) = record { name = the_open; said = open_seen o }
 command_seen (command.Noise a) = record { name = the_noise; said = noise_seen a }
+command_seen (command.Local l) = record { name = the_local; said = local_seen l }
+command_seen (command.Serve s) = record { name = the_serve; said = serve_seen s }
+command_seen (command.Fetch f) = record { name = the_fetch; said = fetch_seen f }
 
 -- ---- how the words are read
 
@@ -166,9 +245,9 @@ command_seen (command.Noise a) = record { name = the_noise; said = noise_seen a 
 abbrev pub IsNumber : List ℕ → ℕ → Type 0
 IsNumber word number = (number < 2 ^ 32) × (word ≡ decimal number)
 
--- the word is a number of workers, in plain decimal
-abbrev pub IsWorkers : List ℕ → ℕ → Type 0
-IsWorkers word number = (1 ≤ number) × (number ≤ 64) × (word ≡ decimal number)
+-- the word is a number from 1 to this one, in plain decimal
+abbrev pub IsCountTo : ℕ → List ℕ → ℕ → Type 0
+IsCountTo most word number = (1 ≤ number) × (number ≤ most) × (word ≡ decimal number)
 
 -- The words behind a command's name are read: what they say, in form; or nothing, where they are those of nothing in form.
 abbrev pub ReadsArgs : {T W : Type 0} → (T → W) → (W → Type 0) → (W → List (List ℕ)) → List (List ℕ) → Option T → Type 0

@@ -11,6 +11,12 @@ use std::alloc::AllocError;
 /// The line of a command whose file couldn't be read or written.
 pub const FILE_FAULT: &[u8] = b"file fault\n";
 
+/// The line of a command for which a call of the net failed.
+pub const LINK_FAULT: &[u8] = b"link fault\n";
+
+/// The line of a session that took as many bytes as it may.
+pub const INPUT_LIMIT: &[u8] = b"input limit\n";
+
 /// Puts the line of a refusal. The status stays where the put fails.
 pub fn refuse<O: Sink>(sink: &mut O, line: &[u8], status: Status) -> Status
     ensures { Refused (O.seen sink.old) (O.seen sink.new) status line.now result }

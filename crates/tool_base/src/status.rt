@@ -20,16 +20,22 @@ pub enum Status {
     TooNoisy,
     /// A file couldn't be read or written.
     FileFault,
+    /// A call of the net failed.
+    LinkFault,
     /// An input file isn't the one frame that is expected there.
     BadFrame,
-    /// The reply is of another set than the state.
+    /// An input is of another set than an earlier one.
     WrongSet,
     /// The asked index isn't below the count of records.
     Absent,
+    /// The server refused the query: it sent this in place of a reply.
+    PeerRefused,
     /// The bytes of an input aren't the records of a database.
     BadRecords,
     /// The line couldn't be put.
     SinkFault,
+    /// A session took as many bytes as it may.
+    InputLimit,
 }
 
 impl Status {
@@ -46,11 +52,14 @@ impl Status {
             Status::WordsShort => 5,
             Status::TooNoisy => 6,
             Status::FileFault => 7,
+            Status::LinkFault => 8,
             Status::BadFrame => 9,
             Status::WrongSet => 10,
             Status::Absent => 11,
+            Status::PeerRefused => 12,
             Status::BadRecords => 13,
             Status::SinkFault => 14,
+            Status::InputLimit => 15,
         }
     }
 }

@@ -1,5 +1,5 @@
 ghost use Rattle.std.specs.Prelude.{◌≡◌, IfOk, string_bytes};
-ghost use Rattle.tool_base.specs.Texts.{record_line, wrong_set_line, absent_line, index_range_line, words_short_line, query_line, bad_records_line, database_line, bad_frame_line, reply_line, too_noisy_line, report_line, report_row_line};
+ghost use Rattle.tool_base.specs.Texts.{record_line, wrong_set_line, absent_line, index_range_line, words_short_line, query_line, bad_records_line, database_line, bad_frame_line, peer_refused_line, reply_line, too_noisy_line, report_line, report_row_line};
 
 use std::alloc::{AllocError, Global};
 
@@ -114,6 +114,13 @@ pub fn bad_frame_text(alloc: Global, input: u32, code: u8, place: u64) -> Result
     ensures { IfOk result (λ text. string_bytes text ≡ bad_frame_line input code place) }
 {
     format!(in alloc; "bad frame: input {input}, code {code}, place {place}\n")
+}
+
+/// The line that says that the server refused the query: by its code, and where in what it read.
+pub fn peer_refused_text(alloc: Global, code: u8, place: u64) -> Result<String, AllocError>
+    ensures { IfOk result (λ text. string_bytes text ≡ peer_refused_line code place) }
+{
+    format!(in alloc; "peer refused: code {code}, place {place}\n")
 }
 
 /// The line that says of which set the reply is, and how long its file is.

@@ -1,20 +1,32 @@
 ghost use Rattle.std.specs.Prelude.{ℕ, map, string_bytes, MatchOption};
-ghost use Rattle.tool_base.specs.Words.{Gives, IsNumber, IsWorkers};
+ghost use Rattle.tool_base.specs.Words.{Gives, IsNumber, IsCountTo};
 
 mod answering;
 mod asking;
+mod fetching;
+mod local;
 mod measuring;
 mod opening;
 mod preparing;
+mod serving;
 
 pub use answering::Answer;
 pub use asking::Ask;
+pub use fetching::Fetch;
+pub use local::Local;
 pub use measuring::Noise;
 pub use opening::Open;
 pub use preparing::Prepare;
+pub use serving::Serve;
 
 /// How many workers a command may ask for at most.
 const MOST_WORKERS: u32 = 64;
+
+/// How many bytes a cut of a session's bytes may have at most.
+const LARGEST_CUT: u32 = 1_048_576;
+
+/// How many sessions a server may be asked to serve at most.
+const MOST_SESSIONS: u32 = 1_000_000;
 
 /// What a command line asks for.
 #[derive(Clone, Copy, Debug)]
@@ -29,6 +41,12 @@ pub enum Command<'a> {
     Open(Open<'a>),
     /// `noise SET INDEX WORDS`: reports the noise of the query that these words give.
     Noise(Noise<'a>),
+    /// `local DB INDEX WORDS TRANSCRIPT OUT WORKERS CUT`: a client and a server in one program, over bytes in memory.
+    Local(Local<'a>),
+    /// `serve ADDR DB SESSIONS WORKERS`: serves sessions over the net.
+    Serve(Serve<'a>),
+    /// `fetch ADDR SET INDEX WORDS OUT`: fetches a record from a server.
+    Fetch(Fetch<'a>),
 }
 
 // The number below 2^32 that a word is in plain decimal; `None` exactly where it is none.
@@ -45,12 +63,12 @@ fn plain_number(word: &str) -> Option<u32>
     word.parse::<u32>().ok()
 }
 
-// The number of workers, 1 to 64, that a word is in plain decimal; `None` exactly where it is none.
-fn worker_number(word: &str) -> Option<u32>
-    ensures { MatchOption result ((number : ℕ) → IsWorkers word.now number → ⊥) (λ number. IsWorkers word.now number) }
+// The number from 1 to `most` that a word is in plain decimal; `None` exactly where it is none.
+fn count_to(most: u32, word: &str) -> Option<u32>
+    ensures { MatchOption result ((number : ℕ) → IsCountTo most word.now number → ⊥) (λ number. IsCountTo most word.now number) }
 {
     match plain_number(word) {
-        Some(number) if number >= 1 && number <= MOST_WORKERS => Some(number),
+        Some(number) if number >= 1 && number <= most => Some(number),
         _ => None,
     }
 }
@@ -69,6 +87,9 @@ impl<'a> Command<'a> {
             "answer" => Some(Command::Answer(Answer::from_args(args)?)),
             "open" => Some(Command::Open(Open::from_args(args)?)),
             "noise" => Some(Command::Noise(Noise::from_args(args)?)),
+            "local" => Some(Command::Local(Local::from_args(args)?)),
+            "serve" => Some(Command::Serve(Serve::from_args(args)?)),
+            "fetch" => Some(Command::Fetch(Fetch::from_args(args)?)),
             _ => None,
         }
     }

@@ -1,9 +1,11 @@
 pub mod SourceWords
+pub mod ReadingFrames
+pub mod ReadingKinds
 pub mod Unread
 pub mod Asking
 pub mod Preparing
 pub mod Setups
 pub mod Answering
 pub mod CommandsTell
-pub mod GivenWords
+pub mod WithGiven
 pub mod Reporting

@@ -5,18 +5,15 @@ use Rattle.spiral_sets.specs.declared.param_set.ParamSet.{ParamSet}
 use Rattle.frame_headers.specs.declared.frame_error.FrameError.{FrameError}
 use Rattle.spiral_model.specs.Sets.{name_of}
 use Rattle.spiral_model.specs.Bodies.{CipherBody}
-use Rattle.spiral_model.specs.Databases.{RecordTable}
-use Rattle.spiral_model.specs.Keys.{SetKeys, keys_in}
-use Rattle.spiral_model.specs.Replies.{SwitchedReply}
-use Rattle.spiral_model.specs.Answering.{ready_of, answer_of}
-use Rattle.spiral_frames.specs.Frames.{frame_of, reply_message}
+use Rattle.spiral_model.specs.Keys.{keys_in}
 use Rattle.spiral_frames.specs.FrameChecks.{database_refusal}
-use Rattle.tool_base.specs.declared.status.Status.TheVariants.{BadFrame, WrongSet}
+use Rattle.frame_streams.specs.Serving.{reply_frame}
+use Rattle.tool_base.specs.declared.status.Status.TheVariants.{WrongSet}
 use Rattle.tool_base.specs.Texts.{reply_line, wrong_set_line}
 use Rattle.tool_base.specs.Words.{AnswerWords}
 use Rattle.tool_base.specs.Outputs.{one}
-use Rattle.tool_base.specs.Steps.{Steps, read, needs, write, without_line, refuse_frame}
-use Rattle.tool_files.specs.Inputs.{SpellsDatabase, SpellsKeys, SpellsQuery}
+use Rattle.tool_base.specs.Steps.{Steps, read, needs, write, refuse_frame, IsRefusedAs}
+use Rattle.tool_files.specs.Inputs.{SpellsDatabase, SpellsKeys, SpellsQuery, setup_kinds, query_kinds}
 
 -- bytes that are no database's frame are refused for this reason
 abbrev pub IsRefused : List ℕ → FrameError → Type 0
@@ -27,19 +24,13 @@ abbrev pub set_of_setup : ParamSet → Option CipherBody → ParamSet
 set_of_setup set (Some keys) = keys.set
 set_of_setup set None = set
 
--- the answer to a query, made ready with these keys, and its frame
-abbrev pub reply_for : RecordTable → Option SetKeys → CipherBody → SwitchedReply
-reply_for table keys query = answer_of table keys (ready_of table.set keys query.ciphers)
-
-abbrev pub reply_frame : RecordTable → Option SetKeys → CipherBody → List ℕ
-reply_frame table keys query = frame_of (reply_message (reply_for table keys query))
-
--- Answers the query from the database with the keys of SETUP, which is empty where the database's set has none, and writes the reply.
+-- Answers the query from the database with the keys of SETUP, and writes the reply. Where the database's set has no keys SETUP is
+-- empty, or a Setup of that set, which carries none and changes nothing.
 abbrev pub answers : AnswerWords → Steps
 answers a =
     read a.db_name SpellsDatabase (refuse_frame 1 a.db_name IsRefused) (λ table.
-    read a.setup_name (SpellsKeys table.set) (without_line BadFrame) (λ setup.
-    read a.query_name SpellsQuery (without_line BadFrame) (λ query.
+    read a.setup_name (SpellsKeys table.set) (refuse_frame 2 a.setup_name (IsRefusedAs setup_kinds)) (λ setup.
+    read a.query_name SpellsQuery (refuse_frame 3 a.query_name (IsRefusedAs query_kinds)) (λ query.
     needs (table.set ≡ set_of_setup table.set setup) WrongSet (wrong_set_line (name_of table.set) (name_of (set_of_setup table.set setup))) (
     needs (table.set ≡ query.set) WrongSet (wrong_set_line (name_of table.set) (name_of query.set)) (
     write (one a.reply_name (reply_frame table (option_map keys_in setup) query))

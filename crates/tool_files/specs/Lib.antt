@@ -1,5 +1,6 @@
 pub mod Inputs
 pub mod Reading
+pub mod Emptiness
 pub mod Refusing
 pub mod RandomWords
 pub mod WithWords

@@ -12,20 +12,27 @@ use Rattle.tool_base.specs.Sources.{WordSource, source_name}
 use Rattle.tool_base.specs.Steps.{Steps, with_set, needs, read, never}
 use Rattle.tool_files.specs.RandomWords.{GivesWords}
 
--- Goes on with the set of this name and the words that the source gives for a query of an index.
-abbrev pub with_words : List ℕ → ℕ → WordSource → (ParamSet → List ℕ → Steps) → Steps
-with_words set_name index source rest =
-    with_set set_name (λ set.
+-- Goes on with the words that the source gives for a query of an index of that set.
+abbrev pub with_words_for : ParamSet → ℕ → WordSource → (List ℕ → Steps) → Steps
+with_words_for set index source rest =
     needs (index < max_records set) IndexRange (index_range_line index (max_records set)) (
     read (source_name source) (GivesWords source (words_needed set)) never (λ words.
     needs (words_needed set ≤ length words) WordsShort (words_short_line (words_needed set) (length words)) (
-    rest set words))))
+    rest words)))
 
--- The set and the words that such a command has then, when its files went from `old` to `now`.
-pub record HasWords (set_name : List ℕ) (index : ℕ) (source : WordSource) (old now : FilesSeen) (set : ParamSet) (words : List ℕ) : Type 0 where
-  pub known : IsSet set
-  pub names : Names set_name set
+-- The same, with the set of this name.
+abbrev pub with_words : List ℕ → ℕ → WordSource → (ParamSet → List ℕ → Steps) → Steps
+with_words set_name index source rest = with_set set_name (λ set. with_words_for set index source (rest set))
+
+-- The words that such a command has then for a set, when its files went from `old` to `now`.
+pub record HasWordsFor (set : ParamSet) (index : ℕ) (source : WordSource) (old now : FilesSeen) (words : List ℕ) : Type 0 where
   pub below : index < max_records set
   pub only : OnlyRead old now
   pub given : IsTrue old.tells → GivesWords source (words_needed set) (content_of old (source_name source)) words
   pub enough : words_needed set ≤ length words
+
+-- The same, with the set of a name.
+pub record HasWords (set_name : List ℕ) (index : ℕ) (source : WordSource) (old now : FilesSeen) (set : ParamSet) (words : List ℕ) : Type 0 where
+  pub known : IsSet set
+  pub names : Names set_name set
+  pub has : HasWordsFor set index source old now words

@@ -1,23 +1,25 @@
 ghost use Rattle.std.specs.Prelude.{◌≡◌, ◌≤◌, length, option_map, IfOk};
 ghost use Rattle.std.specs.Option.{option_copied};
 ghost use Rattle.spiral_model.specs.Sets.{IsSet, name_of};
-ghost use Rattle.spiral_model.specs.Bodies.{IsSetup, IsQuery};
+ghost use Rattle.spiral_model.specs.Bodies.{IsQuery};
 ghost use Rattle.spiral_model.specs.Keys.{keys_in};
 ghost use Rattle.tool_base.specs.Outputs.{one};
 ghost use Rattle.tool_base.specs.Steps.{scene, write};
 ghost use Rattle.tool_base.specs.Texts.{reply_line};
 ghost use Rattle.tool_base.specs.Words.{answer_seen};
-ghost use Rattle.tool_files.specs.Inputs.{SpellsNothing, SpellsSetup, SpellsKeys};
+ghost use Rattle.tool_files.specs.Inputs.{SpellsKeys, setup_kinds};
 ghost use Rattle.tool_files.specs.Reading.{ReadsMessage};
+ghost use Rattle.tool_files.specs.Emptiness.{FindsEmpty};
 ghost use Rattle.tool_files.specs.Given.{IsRead, IsGiven};
-ghost use Rattle.tool_files.specs.Answer.{answers, set_of_setup as set_of_setup_for, reply_for, reply_frame as frame_of_reply};
+ghost use Rattle.frame_streams.specs.Serving.{reply_for, reply_frame as frame_of_reply};
+ghost use Rattle.tool_files.specs.Answer.{answers, set_of_setup as set_of_setup_for};
 
-use crate::frames::read_message;
+use crate::frames::{read_keys, read_query};
 use crate::input::InputError;
 use crate::refusals::{refuse_database, refuse_input, refuse_set};
 use modulus_switch::Reply;
 use no_memory::NoMemory;
-use pir_io::{Files, Gate, IoFault, Sink, read_front};
+use pir_io::{Files, Gate, IoFault, Sink};
 use pir_server::Server;
 use pir_wire::encode_reply;
 use record_store::{Database, read_db};
@@ -47,11 +49,11 @@ pub fn answer_files<R: Threads + Sync, F: Files, G: Gate, O: Sink>(
     let set = db.set;
     let setup = match read_setup(alloc, files, &set, answer.setup) {
         Ok(setup) => setup,
-        Err(error) => return refuse_input(sink, error),
+        Err(error) => return refuse_input(alloc, sink, 2, error),
     };
-    let query: QueryBody = match read_message(alloc, files, answer.query) {
+    let query = match read_query(alloc, files, answer.query) {
         Ok(query) => query,
-        Err(error) => return refuse_input(sink, error),
+        Err(error) => return refuse_input(alloc, sink, 3, error),
     };
     let keys = setup.as_ref();
     let keys_set = set_of_setup(&set, keys);
@@ -67,30 +69,39 @@ pub fn answer_files<R: Threads + Sync, F: Files, G: Gate, O: Sink>(
     }
 }
 
-// Reads SETUP as one whole Setup frame.
-fn read_keys<F: Files>(alloc: Global, files: &mut F, name: &str) -> Result<KeyBody, InputError>
-    ensures reads { ReadsMessage SpellsSetup (F.seen files.old) (F.seen files.new) name.now result }
-    ensures fits { IfOk result (λ keys. IsSetup keys) }
+// Whether a file holds no byte.
+fn is_empty<F: Files>(files: &mut F, name: &str) -> Result<bool, IoFault>
+    ensures { FindsEmpty (F.seen files.old) (F.seen files.new) name.now result }
 {
-    read_message(alloc, files, name)
+    let mut byte = [0u8; 1];
+    let count = files.read_at(name, 0, &mut byte)?;
+    Ok(count == 0)
 }
 
-// Reads SETUP for a database of that set: the keys where the set has keys; else it is to be empty.
+// Reads SETUP for a database of that set: one Setup frame; or nothing, where the set has no keys.
 fn read_setup<F: Files>(
     alloc: Global,
     files: &mut F,
     set: &ParamSet,
     name: &str,
 ) -> Result<Option<KeyBody>, InputError>
-    ensures reads { ReadsMessage (SpellsKeys set.now) (F.seen files.old) (F.seen files.new) name.now result }
+    ensures reads { ReadsMessage setup_kinds (SpellsKeys set.now) (F.seen files.old) (F.seen files.new) name.now result }
     ensures fits { IfOk result (λ setup. IsRead set.now setup) }
 {
     if set.has_keys() {
-        let keys = read_keys(alloc, files, name)?;
-        Ok(Some(keys))
-    } else {
-        read_empty(alloc, files, name)?;
-        Ok(None)
+        return match read_keys(alloc, files, name) {
+            Ok(keys) => Ok(Some(keys)),
+            Err(error) => Err(error),
+        };
+    }
+    match is_empty(files, name) {
+        Ok(true) => Ok(None),
+        Ok(false) => match read_keys(alloc, files, name) {
+            Ok(keys) => Ok(Some(keys)),
+            Err(error) => Err(error),
+        },
+        Err(IoFault::Failed) => Err(InputError::File),
+        Err(IoFault::NoMemory) => Err(InputError::NoMemory),
     }
 }
 
@@ -101,18 +112,6 @@ fn set_of_setup(set: &ParamSet, setup: Option<&KeyBody>) -> ParamSet
     match setup {
         Some(keys) => keys.set,
         None => *set,
-    }
-}
-
-// Reads a file that is to be empty, as the setup of a set without keys is.
-fn read_empty<F: Files>(alloc: Global, files: &mut F, name: &str) -> Result<(), InputError>
-    ensures { ReadsMessage SpellsNothing (F.seen files.old) (F.seen files.new) name.now result }
-{
-    match read_front(alloc, files, name, 1) {
-        Ok(bytes) if bytes.is_empty() => Ok(()),
-        Ok(_) => Err(InputError::Frame),
-        Err(IoFault::Failed) => Err(InputError::File),
-        Err(IoFault::NoMemory) => Err(InputError::NoMemory),
     }
 }
 
@@ -130,10 +129,11 @@ fn answer_with<R: Threads + Sync, G: Gate>(
     ensures { IfOk result (λ reply. reply ≡ reply_for server.old.table (option_map keys_in (option_copied setup.entry)) query.now) }
 {
     match setup {
-        Some(setup) => {
+        Some(setup) if setup.set.has_keys() => {
             let keys = server.keys(setup)?;
             server.answer(rt, Some(&keys), query, gate)
         }
+        Some(_) => server.answer(rt, None, query, gate),
         None => server.answer(rt, None, query, gate),
     }
 }

@@ -6,7 +6,7 @@ ghost use Rattle.tool_base.specs.Words.{ask_seen};
 ghost use Rattle.tool_files.specs.Ask.{asks};
 ghost use Rattle.tool_files.specs.AskedFrames.{outputs_from};
 
-use crate::given_words::given_words;
+use crate::words_given::given_words;
 use modulus_switch::ClientState;
 use no_memory::NoMemory;
 use pir_client::{AskError, Asked};

@@ -5,7 +5,7 @@ ghost use Rattle.tool_base.specs.Words.{noise_seen};
 ghost use Rattle.tool_files.specs.Noise.{noises};
 ghost use Rattle.tool_files.specs.SeenRows.{seen_line, SeenLines};
 
-use crate::given_words::given_words;
+use crate::words_given::given_words;
 use noise_check::{Report, fits};
 use pir_client::measure_for;
 use pir_io::{Files, Sink};

@@ -1,16 +1,21 @@
+ghost use Rattle.spiral_model.specs.Replies.{IsState, IsReply};
 ghost use Rattle.tool_base.specs.Outputs.{one};
 ghost use Rattle.tool_base.specs.Steps.{scene, write};
 ghost use Rattle.tool_base.specs.Texts.{record_line};
 ghost use Rattle.tool_base.specs.Words.{open_seen};
-ghost use Rattle.tool_files.specs.Open.{opens};
+ghost use Rattle.tool_files.specs.Open.{opens, opens_reply};
 
-use crate::frames::read_message;
+use crate::frames::{read_answer, read_state};
+use crate::peer_answer::PeerAnswer;
 use crate::refusals::{refuse_input, refuse_set};
 use modulus_switch::{ClientState, Reply};
 use pir_client::OpenError;
 use pir_io::{Files, Sink};
 use std::alloc::Global;
-use tool_base::{Open, Output, Status, absent_text, record_text, refuse_by_text, write_and_finish};
+use tool_base::{
+    Open, Output, Status, absent_text, peer_refused_text, record_text, refuse_by_text,
+    write_and_finish,
+};
 
 /// Opens the reply in one file by the state in another, and writes the record to a third.
 pub fn open_files<F: Files, O: Sink>(
@@ -21,16 +26,38 @@ pub fn open_files<F: Files, O: Sink>(
 ) -> Status
     ensures { opens (open_seen opening.now) (scene (F.seen files.old) (F.seen files.new) (O.seen sink.old) (O.seen sink.new)) result }
 {
-    let state: ClientState = match read_message(alloc, files, opening.state) {
+    let state = match read_state(alloc, files, opening.state) {
         Ok(state) => state,
-        Err(error) => return refuse_input(sink, error),
+        Err(error) => return refuse_input(alloc, sink, 1, error),
     };
-    let reply: Reply = match read_message(alloc, files, opening.reply) {
-        Ok(reply) => reply,
-        Err(error) => return refuse_input(sink, error),
-    };
-    match pir_client::open(alloc, &state, &reply) {
-        Ok(record) => write_record(alloc, files, sink, &record, reply.length(), opening.out),
+    match read_answer(alloc, files, opening.reply) {
+        Ok(PeerAnswer::Reply(reply)) => {
+            open_reply(alloc, files, sink, &state, &reply, opening.out)
+        }
+        Ok(PeerAnswer::Refuse { code, place }) => refuse_by_text(
+            sink,
+            peer_refused_text(alloc, code, place),
+            Status::PeerRefused,
+        ),
+        Err(error) => refuse_input(alloc, sink, 2, error),
+    }
+}
+
+/// Opens a reply by the state, and writes the record.
+pub fn open_reply<F: Files, O: Sink>(
+    alloc: Global,
+    files: &mut F,
+    sink: &mut O,
+    state: &ClientState,
+    reply: &Reply,
+    out: &str,
+) -> Status
+    requires state { IsState state.now }
+    requires reply { IsReply reply.now }
+    ensures { opens_reply out.now state.now reply.now (scene (F.seen files.old) (F.seen files.new) (O.seen sink.old) (O.seen sink.new)) result }
+{
+    match pir_client::open(alloc, state, reply) {
+        Ok(record) => write_record(alloc, files, sink, &record, reply.length(), out),
         Err(OpenError::WrongSet { expected, found }) => {
             refuse_set(alloc, sink, &expected, &found)
         }

@@ -10,13 +10,17 @@ use spiral_sets::ParamSet;
 use std::alloc::Global;
 use tool_base::{FILE_FAULT, Status, bad_frame_text, refuse, refuse_by_text, wrong_set_text};
 
-/// Ends a command whose input gave no message.
-pub fn refuse_input<O: Sink>(sink: &mut O, error: InputError) -> Status
-    ensures { InputRefused (O.seen sink.old) (O.seen sink.new) error result }
+/// Ends a command whose input of that number, counted from 1, gave no message.
+pub fn refuse_input<O: Sink>(alloc: Global, sink: &mut O, input: u32, error: InputError) -> Status
+    ensures { InputRefused input (O.seen sink.old) (O.seen sink.new) error result }
 {
     match error {
         InputError::File => refuse(sink, FILE_FAULT, Status::FileFault),
-        InputError::Frame => Status::BadFrame,
+        InputError::Frame(error) => refuse_by_text(
+            sink,
+            bad_frame_text(alloc, input, error.code(), error.place()),
+            Status::BadFrame,
+        ),
         InputError::NoMemory => Status::NoMemory,
     }
 }

@@ -11,7 +11,7 @@ use Rattle.tool_base.specs.Texts.{record_line}
 use Rattle.tool_base.specs.Words.{OpenWords, the_open, words_of}
 use Rattle.tool_base.specs.Outputs.{one}
 use Rattle.tool_base.specs.Steps.{Scene, Steps, read, never, write}
-use Rattle.tool_files.specs.Answer.{reply_frame}
+use Rattle.frame_streams.specs.Serving.{reply_frame}
 
 -- whatever the bytes are
 abbrev pub Anything : List ℕ → Unit {0} → Type 0

@@ -1,7 +1,7 @@
 ghost use Rattle.std.specs.Prelude.{map, string_bytes};
 ghost use Rattle.tool_base.specs.Words.{ReadsArgs, answer_seen, answer_args, AnswerForm};
 
-use super::worker_number;
+use super::{MOST_WORKERS, count_to};
 
 /// What `answer DB SETUP QUERY REPLY WORKERS` says.
 #[derive(Clone, Copy, Debug)]
@@ -31,7 +31,7 @@ impl<'a> Answer<'a> {
             setup: setup.as_str(),
             query: query.as_str(),
             reply: reply.as_str(),
-            workers: worker_number(workers.as_str())?,
+            workers: count_to(MOST_WORKERS, workers.as_str())?,
         })
     }
 }

@@ -3,7 +3,7 @@ use Rattle.spiral_sets.specs.declared.param_set.ParamSet.{ParamSet}
 use Rattle.spiral_model.specs.Keys.{SetKeys, keys_in}
 use Rattle.pir_server.specs.Served.{Served}
 use Rattle.tool_files.specs.Given.{IsGiven}
-use Rattle.tool_files.specs.Answer.{reply_for}
+use Rattle.frame_streams.specs.Serving.{reply_for}
 use Rattle.tool_files.proofs.Answering.{reply_spelled}
 use Rattle.tool_files.proofs.answer.reply_frame.Goals as goal
 

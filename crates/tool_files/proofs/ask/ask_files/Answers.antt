@@ -4,7 +4,7 @@ use Rattle.tool_base.specs.Texts.{too_noisy_line}
 use Rattle.tool_base.specs.Words.{ask_seen}
 use Rattle.tool_base.proofs.Courses.{write_as}
 use Rattle.tool_files.proofs.Asking.{ask_rest, outputs_are, line_is}
-use Rattle.tool_files.proofs.GivenWords.{with_given, without_words, named_words}
+use Rattle.tool_files.proofs.WithGiven.{with_given, without_words, named_words}
 use Rattle.tool_files.proofs.ask.ask_files.Goals as goal
 
 pub returns-in-Err : goal.returns-in-Err

@@ -1,6 +1,6 @@
 use Rattle.std.proofs.Common.{refl}
 use Rattle.tool_base.specs.Words.{noise_seen}
-use Rattle.tool_files.proofs.GivenWords.{with_given, without_words, named_words}
+use Rattle.tool_files.proofs.WithGiven.{with_given, without_words, named_words}
 use Rattle.tool_files.proofs.Reporting.{noise_rest, noise_reported}
 use Rattle.tool_files.proofs.noise.noise_files.Goals as goal
 

@@ -1,0 +1,4 @@
+pub mod Asked
+pub mod Shapes
+pub mod ReplyShapes
+pub mod Answered

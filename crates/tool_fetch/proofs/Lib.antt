@@ -1,0 +1,5 @@
+mod EndsShort
+mod SentFrames
+mod OneReceived
+mod SendThenReceive
+mod LookingUp

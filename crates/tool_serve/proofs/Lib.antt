@@ -1,0 +1,6 @@
+mod SessionLists
+mod SessionTexts
+mod NextSession
+mod ServingOn
+mod ServingLoop
+mod Listening
